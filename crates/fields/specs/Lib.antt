@@ -1,0 +1,3 @@
+pub mod Bit
+pub mod Fields
+pub mod FieldLaws
