@@ -1,5 +1,4 @@
 -- Checks in their order, each with the refusal that it gives: the first whose condition holds decides.
-use Prim.Native.Nat.{ℕ}
 use mathlib.Core.Path.{_≡_, refl, subst}
 use mathlib.Core.Bool.{Bool, true, false, cond}
 use mathlib.Core.List.{List, [], _∷_}
