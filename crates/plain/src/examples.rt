@@ -1,7 +1,8 @@
 // The examples of document 01. Each starts from a fresh log, but for the two readings, and puts its lines at the end of the text.
 use chain::answer::Answer;
 use chain::answer::ChainAnswer;
-use steps::dispatch::Step;
+use dispatch::Step;
+use records::entry::CLIENT_UNIT;
 ghost use Prim.Native.Nat.{_≤_};
 ghost use lib.ListN.{length};
 
@@ -31,11 +32,11 @@ pub fn session(
     text: &mut [u8; 1024],
     end: usize,
 ) -> usize {
-    steps::fresh::fresh(state, entries, 3);
+    fresh::fresh(state, entries, 3);
     let mut e = end;
     let mut line: u64 = 1;
     while line <= 14 {
-        let answer = steps::dispatch::take_step(state, entries, session_step(line));
+        let answer = dispatch::take_step(state, entries, session_step(line));
         e = crate::text::put_numbered_line(text, e, line, answer);
         line += 1;
     }
@@ -49,13 +50,13 @@ pub fn fence(
     text: &mut [u8; 1024],
     end: usize,
 ) -> usize {
-    steps::fresh::fresh(state, entries, 3);
+    fresh::fresh(state, entries, 3);
     let mut line: u64 = 1;
     while line <= 13 {
-        steps::dispatch::take_step(state, entries, session_step(line));
+        dispatch::take_step(state, entries, session_step(line));
         line += 1;
     }
-    let answer = steps::dispatch::take_step(state, entries, Step::Write(0, 8));
+    let answer = dispatch::take_step(state, entries, Step::Write(0, 8));
     crate::text::put_line(text, end, b"write after the fence", answer)
 }
 
@@ -63,7 +64,7 @@ pub fn fence(
 fn become_on_short(state: &mut [u64], entries: &mut [u64]) -> Answer
     requires { ⌜ 526 ≤ length (now state) ⌝ }
 {
-    steps::dispatch::take_step(&mut state[..526], entries, Step::Become(0))
+    dispatch::take_step(&mut state[..526], entries, Step::Become(0))
 }
 
 pub fn short_state(
@@ -72,7 +73,7 @@ pub fn short_state(
     text: &mut [u8; 1024],
     end: usize,
 ) -> usize {
-    steps::fresh::fresh(state, entries, 3);
+    fresh::fresh(state, entries, 3);
     let answer = become_on_short(state, entries);
     crate::text::put_line(text, end, b"short state", answer)
 }
@@ -84,28 +85,28 @@ pub fn client_counts(
     text: &mut [u8; 1024],
     end: usize,
 ) -> usize {
-    let most = steps::fresh::fresh(state, entries, 16);
+    let most = fresh::fresh(state, entries, 16);
     let e = crate::text::put_line(text, end, b"fresh 16", most);
-    let more = steps::fresh::fresh(state, entries, 17);
+    let more = fresh::fresh(state, entries, 17);
     let e2 = crate::text::put_line(text, e, b"fresh 17", more);
-    let none = steps::fresh::fresh(state, entries, 0);
+    let none = fresh::fresh(state, entries, 0);
     crate::text::put_line(text, e2, b"fresh 0", none)
 }
 
 // A log of one client, which leads and has its first ledger listed.
 fn start_alone(state: &mut [u64; 527], entries: &mut [u64; 4096]) {
-    steps::fresh::fresh(state, entries, 1);
-    steps::dispatch::take_step(state, entries, Step::Become(0));
-    steps::dispatch::take_step(state, entries, Step::Fetch(0));
-    steps::dispatch::take_step(state, entries, Step::Create(0));
-    steps::dispatch::take_step(state, entries, Step::Append(0));
+    fresh::fresh(state, entries, 1);
+    dispatch::take_step(state, entries, Step::Become(0));
+    dispatch::take_step(state, entries, Step::Fetch(0));
+    dispatch::take_step(state, entries, Step::Create(0));
+    dispatch::take_step(state, entries, Step::Append(0));
 }
 
 // One entry, the ledger closed, and what the creation of the next ledger answers.
 fn create_next(state: &mut [u64; 527], entries: &mut [u64; 4096]) -> Answer {
-    steps::dispatch::take_step(state, entries, Step::Write(0, 0));
-    steps::dispatch::take_step(state, entries, Step::CloseOwn(0));
-    steps::dispatch::take_step(state, entries, Step::Create(0))
+    dispatch::take_step(state, entries, Step::Write(0, 0));
+    dispatch::take_step(state, entries, Step::CloseOwn(0));
+    dispatch::take_step(state, entries, Step::Create(0))
 }
 
 // The ledgers from 2 to 254, each closed but the last.
@@ -113,7 +114,7 @@ fn create_most(state: &mut [u64; 527], entries: &mut [u64; 4096]) {
     let mut turns: u64 = 0;
     while turns < 253 {
         create_next(state, entries);
-        steps::dispatch::take_step(state, entries, Step::Append(0));
+        dispatch::take_step(state, entries, Step::Append(0));
         turns += 1;
     }
 }
@@ -129,7 +130,7 @@ pub fn ledger_limit(
     create_most(state, entries);
     let last = create_next(state, entries);
     let e = crate::text::put_line(text, end, b"create at 255", last);
-    steps::dispatch::take_step(state, entries, Step::Append(0));
+    dispatch::take_step(state, entries, Step::Append(0));
     let more = create_next(state, entries);
     crate::text::put_line(text, e, b"create at 256", more)
 }
@@ -138,7 +139,7 @@ pub fn ledger_limit(
 fn write_most(state: &mut [u64; 527], entries: &mut [u64; 4096]) {
     let mut value: u64 = 0;
     while value < 4095 {
-        steps::dispatch::take_step(state, entries, Step::Write(0, value));
+        dispatch::take_step(state, entries, Step::Write(0, value));
         value += 1;
     }
 }
@@ -152,14 +153,11 @@ pub fn entry_limit(
 ) -> usize {
     start_alone(state, entries);
     write_most(state, entries);
-    let last = steps::dispatch::take_step(state, entries, Step::Write(0, 4095));
+    let last = dispatch::take_step(state, entries, Step::Write(0, 4095));
     let e = crate::text::put_line(text, end, b"last entry", last);
-    let more = steps::dispatch::take_step(state, entries, Step::Write(0, 4096));
+    let more = dispatch::take_step(state, entries, Step::Write(0, 4096));
     crate::text::put_line(text, e, b"one entry more", more)
 }
-
-// The unit of the client number in a word that is read: its lowest bit. Below it is the value.
-const CLIENT_UNIT: u64 = 1 << 52;
 
 // The first words that were read, each as ` client:value`.
 fn put_words(text: &mut [u8; 1024], end: usize, words: &[u64; 4096], count: u64) -> usize {

@@ -1,5 +1,6 @@
 pub mod EveryLaws
 pub mod Parts
+pub mod Lowest
 pub mod PartLaws
 pub mod WordLaws
 pub mod VerdictLaws

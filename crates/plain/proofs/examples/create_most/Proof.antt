@@ -1,6 +1,6 @@
 -- `plain::examples::create_most` is safe and ends: the measure is the turns that are left. Assumes nothing.
-use borrow.Author.Needs.{needs}
 use Prim.Native.Nat.{_-_}
+use borrow.Author.Needs.{needs}
 use Rattle.plain.proofs.examples.create_most.Statement.{statement}
 use Rattle.plain.proofs.examples.create_most.Tie as tie
 

@@ -1,6 +1,6 @@
 -- `plain::examples::fence` is safe and ends: the measure is the lines that are left. Assumes nothing.
-use borrow.Author.Needs.{needs}
 use Prim.Native.Nat.{_-_}
+use borrow.Author.Needs.{needs}
 use Rattle.plain.proofs.examples.fence.Statement.{statement}
 use Rattle.plain.proofs.examples.fence.Tie as tie
 

@@ -1,6 +1,6 @@
 -- `plain::examples::put_words` is safe and ends: the measure is the words that are left. Assumes nothing.
-use borrow.Author.Needs.{needs}
 use Prim.Native.Nat.{_-_}
+use borrow.Author.Needs.{needs}
 use Rattle.plain.proofs.examples.put_words.Statement.{statement}
 use Rattle.plain.proofs.examples.put_words.Tie as tie
 

@@ -1,6 +1,6 @@
 -- `plain::examples::session` is safe and ends: the measure is the lines that are left. Assumes nothing.
-use borrow.Author.Needs.{needs}
 use Prim.Native.Nat.{_-_}
+use borrow.Author.Needs.{needs}
 use Rattle.plain.proofs.examples.session.Statement.{statement}
 use Rattle.plain.proofs.examples.session.Tie as tie
 

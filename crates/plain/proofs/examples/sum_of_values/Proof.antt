@@ -1,6 +1,6 @@
 -- `plain::examples::sum_of_values` is safe and ends. The invariant: each value passed is below 2^52, so that 4,096 of them do not wrap. Assumes nothing.
-use borrow.Author.Needs.{needs}
 use Prim.Native.Nat.{_-_, _*_, _≤_}
+use borrow.Author.Needs.{needs}
 use Rattle.plain.proofs.examples.sum_of_values.Statement.{statement}
 use Rattle.plain.proofs.examples.sum_of_values.Tie as tie
 

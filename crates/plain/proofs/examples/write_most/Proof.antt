@@ -1,6 +1,6 @@
 -- `plain::examples::write_most` is safe and ends: the measure is the values that are left. Assumes nothing.
-use borrow.Author.Needs.{needs}
 use Prim.Native.Nat.{_-_}
+use borrow.Author.Needs.{needs}
 use Rattle.plain.proofs.examples.write_most.Statement.{statement}
 use Rattle.plain.proofs.examples.write_most.Tie as tie
 

@@ -1,7 +1,7 @@
 -- `plain::text::put_bytes` is safe and ends: the measure is the bytes that are left. Assumes nothing.
-use borrow.Author.Needs.{needs}
 use Prim.Native.Nat.{_-_}
 use lib.ListN.{length}
+use borrow.Author.Needs.{needs}
 use Rattle.plain.proofs.text.put_bytes.Statement.{statement}
 use Rattle.plain.proofs.text.put_bytes.Tie as tie
 
