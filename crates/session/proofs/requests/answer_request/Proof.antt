@@ -1,0 +1,41 @@
+-- `answer_request` meets its contract.
+use borrow.Author.Needs.{needs}
+use Rattle.session.specs.Parts.{took, took-none}
+use Rattle.session.proofs.requests.answer_request.Statement.{statement}
+use Rattle.session.proofs.requests.answer_request.Tie as tie
+
+enum-known-request : tie.Need-enum-known-request
+enum-known-request c = search needs
+
+take-step-requires : tie.Need-take-step-requires
+take-step-requires c κs = search needs
+
+enum-told : tie.Need-enum-told
+enum-told c = search needs
+
+same-length : tie.Need-same-length
+same-length c = search needs
+
+same-length-2 : tie.Need-same-length-2
+same-length-2 c = search needs
+
+returns : tie.Need-returns
+returns c =
+    let at-take-step = c .before .before .before .before in
+    let at-request = at-take-step .before .before .before .before in
+    rw (at-request .request .given .1) (took _ _ _ _ _ (at-take-step .take-step .ensures))
+
+returns-2 : tie.Need-returns-2
+returns-2 c = rw (c .enum-told .given .1) (took-none _ _)
+
+pub answer-request-spec : {M : Type 1} → statement M
+answer-request-spec =
+    tie.close
+    (tie.spec
+    enum-known-request
+    take-step-requires
+    enum-told
+    same-length
+    same-length-2
+    returns
+    returns-2)

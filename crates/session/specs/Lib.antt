@@ -1,0 +1,7 @@
+pub mod Lines
+pub mod LineLaws
+pub mod Transcript
+pub mod Parts
+pub mod Lengths
+pub mod Starts
+mod Examples

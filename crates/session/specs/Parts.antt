@@ -1,0 +1,140 @@
+-- What the parts of a session's code owe: the reply to a request, the replies to all lines, the chain at the end.
+use Prim.Native.Nat.{ℕ, _+_, _-_, _<_, _≤_}
+use native.Mathlib.Omega.{arith}
+use native.Mathlib.Numerals.{add-one}
+use mathlib.Core.Path.{_≡_, refl, sym, ap, subst, _∙_}
+use mathlib.Core.List.{List, [], _∷_, _++_}
+use lib.ListN.{length, take, drop, drop-of-length-le}
+use lib.Seq.{take-append-seam}
+use lib.Dec.{ltb}
+use Rattle.text.specs.Find.{indexOf}
+use Rattle.text.specs.Puts.{Puts, Room, room-first, Left, left-all, left-room, left-turn}
+use Rattle.chain.specs.declared.answer.Answer.{Answer}
+use Rattle.chain.specs.declared.answer.Refusal.{Refusal}
+use Rattle.chain.specs.declared.answer.ChainAnswer.{ChainAnswer}
+use Rattle.chain.specs.declared.answer.ChainAnswer.the-variants.{Count, Refused}
+use Rattle.chain.specs.Steps.{Step}
+use Rattle.chain.specs.Operations.{Buffers, buffers, afterSteps, chainReading, readChainAnswer, readChainOutput}
+use Rattle.steps.specs.Results.{Result}
+use Rattle.dispatch.specs.declared.Step as code
+use Rattle.dispatch.specs.Dispatch.{stepOf}
+use Rattle.grammar.specs.declared.Request.{Request}
+use Rattle.grammar.specs.declared.Request.the-variants.{Take, BadLine}
+use Rattle.replies.specs.declared.reply.Reply.{Reply}
+use Rattle.replies.specs.declared.reply.Reply.the-variants.{Answered, NoStep}
+use Rattle.replies.specs.Replies.{replyText, replyLine, chainLine}
+use Rattle.session.specs.Lines.{Line, line, lines}
+use Rattle.session.specs.LineLaws.{next-line}
+use Rattle.session.specs.Transcript.{requestOf, replyTo, afterRequest, requested, taken, session}
+
+-- The reply to a request, and both buffers after it.
+pub record Answers (r : Request) (b : Buffers) (reply : Reply) (state entries : List ℕ) : Type 0 where
+  pub replies : reply ≡ replyTo r b
+  pub after-it : buffers state entries ≡ afterRequest r b
+
+pub took : (x : code.Step) (b : Buffers) (a : Answer) (state entries : List ℕ) → Result (stepOf x) b a state entries
+    → Answers (Take x) b (Answered a) state entries
+took x b a state entries r = record { replies = ap Answered (r .answers); after-it = λ i. buffers (r .state-words i) (r .entry-words i) }
+
+pub took-none : (state entries : List ℕ) → Answers BadLine (buffers state entries) NoStep state entries
+took-none state entries = record { replies = refl; after-it = refl }
+
+-- The replies to some lines are in the text, and the chain line of the log that they lead to is left to be put.
+pub record Ran (ls : List Line) (b : Buffers) (text : List ℕ) (b′ : Buffers) (text′ : List ℕ) (at : ℕ) : Type 0 where
+  pub left : Left text 0 (session 1 ls b) text′ at (chainLine (chainReading b′))
+  pub steps : b′ ≡ afterSteps (taken ls) b
+
+-- Read chain gives the whole reading.
+pub record Reads (b : Buffers) (out : List ℕ) : Type 0 where
+  pub answers : readChainAnswer b out ≡ Count (length (chainReading b))
+  pub output : readChainOutput b out ≡ chainReading b ++ drop (length (chainReading b)) out
+  pub fits : length (chainReading b) ≤ length out
+
+-- What such a reading comes to in code: the count that was answered, and the first words of the output.
+module _ {b : Buffers} {out : List ℕ} (s : Reads b out) (a : ChainAnswer) (told : a ≡ readChainAnswer b out) where
+  pub count-is : (n : ℕ) → a ≡ Count n → n ≡ length (chainReading b)
+  count-is n e = let q : Count n ≡ Count (length (chainReading b)) = sym e ∙ told ∙ s .answers in cc
+
+  pub not-refused : (r : Refusal) → a ≡ Refused r → ⊥
+  not-refused r e =
+      let q : Refused r ≡ Count (length (chainReading b)) = sym e ∙ told ∙ s .answers in
+      let z : _≡_ {A = ℕ} 0 1 = cc in
+      omega arith
+
+pub part-is : {b : Buffers} {out : List ℕ} → Reads b out → (after : List ℕ) → after ≡ readChainOutput b out → (n : ℕ) → n ≡ length (chainReading b)
+    → take (n - 0) after ≡ chainReading b
+part-is {b} {out} s after e n q =
+    let z : n - 0 ≡ length (chainReading b) = omega (arith, q) in
+    rw (z, e, s .output) (take-append-seam (chainReading b) (drop (length (chainReading b)) out))
+
+-- The steps of a request, and then others.
+pub request-steps : (r : Request) (xs : List Step) (b : Buffers) → afterSteps (requested r ++ xs) b ≡ afterSteps xs (afterRequest r b)
+unfolding afterSteps
+request-steps (Take x) xs b = refl
+request-steps BadLine xs b = refl
+
+-- A session that has come to a line: what is left to be put, and where all lines lead.
+pub record Running (ls : List Line) (b : Buffers) (text : List ℕ) (rest : List Line) (number : ℕ) (b′ : Buffers) (text′ : List ℕ) (at : ℕ) : Type 0 where
+  pub left : Left text 0 (session 1 ls b) text′ at (session number rest b′)
+  pub steps : afterSteps (taken rest) b′ ≡ afterSteps (taken ls) b
+
+pub running-start : (ls : List Line) (b : Buffers) (text : List ℕ) → Running ls b text ls 1 b text 0
+running-start ls b text = record { left = left-all text 0 (session 1 ls b); steps = refl }
+
+module _ {ls : List Line} {b : Buffers} {text : List ℕ} {number : ℕ} {b′ : Buffers} {text′ : List ℕ} {at : ℕ} where
+  pub running-room : {l : Line} {rest : List Line} → Running ls b text (l ∷ rest) number b′ text′ at → Room text 0 (session 1 ls b)
+      → Room text′ at (replyLine number (replyText (replyTo (requestOf l) b′)))
+  unfolding session
+  running-room s room = room-first _ _ (left-room (s .left) room)
+
+  pub running-turn : {l : Line} {rest : List Line} → Running ls b text (l ∷ rest) number b′ text′ at → (b″ : Buffers) (text″ : List ℕ) (at″ : ℕ)
+      → b″ ≡ afterRequest (requestOf l) b′ → Puts text′ at (replyLine number (replyText (replyTo (requestOf l) b′))) text″ at″
+      → Running ls b text rest (number + 1) b″ text″ at″
+  unfolding session taken
+  running-turn {l} {rest} s b″ text″ at″ e p = rw (add-one number, e) (record {
+    left = left-turn (s .left) refl p;
+    steps = sym (request-steps (requestOf l) (taken rest) b′) ∙ s .steps;
+  })
+
+  pub running-end : Running ls b text [] number b′ text′ at → Ran ls b text b′ text′ at
+  unfolding session taken afterSteps
+  running-end s = record { left = s .left; steps = s .steps }
+
+-- One turn of the loop over the input: the line that begins at i and ends at `end`.
+module _ {ls : List Line} {b : Buffers} {text : List ℕ} {number : ℕ} {b′ : Buffers} {text′ : List ℕ} {at : ℕ} (input : List ℕ) (i end : ℕ)
+    (s : Running ls b text (lines (drop i input)) number b′ text′ at) (more : i < length input) (ends : end ≡ i + indexOf 10 (drop i input))
+    (r : Request) (asked : r ≡ requestOf (line (take (end - i) (drop i input)) (ltb end (length input))))
+    (reply : Reply) (replied : reply ≡ replyTo r b′) where
+  abbrev l : Line
+  l = line (take (end - i) (drop i input)) (ltb end (length input))
+
+  here : Running ls b text (l ∷ lines (drop (end + 1) input)) number b′ text′ at
+  here = subst (λ (rest : List Line). Running ls b text rest number b′ text′ at) (next-line input i end more ends) s
+
+  same : replyTo (requestOf l) b′ ≡ reply
+  same = ap (λ (q : Request). replyTo q b′) (sym asked) ∙ sym replied
+
+  pub turn-room : Room text 0 (session 1 ls b) → Room text′ at (replyLine number (replyText reply))
+  turn-room room = subst (λ (q : Reply). Room text′ at (replyLine number (replyText q))) same (running-room here room)
+
+  pub turn : (b″ : Buffers) (text″ : List ℕ) (at″ : ℕ) → b″ ≡ afterRequest r b′ → Puts text′ at (replyLine number (replyText reply)) text″ at″
+      → Running ls b text (lines (drop (end + 1) input)) (number + 1) b″ text″ at″
+  turn b″ text″ at″ e p = running-turn here b″ text″ at″ (e ∙ ap (λ (q : Request). afterRequest q b′) asked)
+      (subst (λ (q : Reply). Puts text′ at (replyLine number (replyText q)) text″ at″) (sym same) p)
+
+no-lines : (input : List ℕ) (i : ℕ) → length input ≤ i → lines (drop i input) ≡ []
+unfolding lines
+no-lines input i past = ap lines (drop-of-length-le input past)
+
+pub turns-end : {ls : List Line} {b : Buffers} {text : List ℕ} {number : ℕ} {b′ : Buffers} {text′ : List ℕ} {at : ℕ} (input : List ℕ) (i : ℕ)
+    → Running ls b text (lines (drop i input)) number b′ text′ at → length input ≤ i → Ran ls b text b′ text′ at
+turns-end {ls} {b} {text} {number} {b′} {text′} {at} input i s past = running-end
+    (subst (λ (rest : List Line). Running ls b text rest number b′ text′ at) (no-lines input i past) s)
+
+-- The chain line of equal readings.
+pub room-as : {text words reading : List ℕ} {at : ℕ} → words ≡ reading → Room text at (chainLine reading) → Room text at (chainLine words)
+room-as {text} {at = at} e h = subst (λ (l : List ℕ). Room text at (chainLine l)) (sym e) h
+
+pub puts-as : {text words reading after : List ℕ} {at end : ℕ} → words ≡ reading → Puts text at (chainLine words) after end
+    → Puts text at (chainLine reading) after end
+puts-as {text} {after = after} {at} {end} e h = subst (λ (l : List ℕ). Puts text at (chainLine l) after end) e h

@@ -1,0 +1,31 @@
+// The session program's transcript, from the bytes of its input to the bytes that it prints.
+pub mod chain_end;
+pub mod requests;
+pub mod start;
+
+ghost use mathlib.Core.Path.{_≡_};
+ghost use Rattle.session.specs.Transcript.{transcriptAnswer, transcriptText};
+
+// The transcript's length, or that the text is below the limit.
+pub enum Printed {
+    Bytes(usize),
+    TextTooShort,
+}
+
+// The byte that ends a line.
+pub const LINE_END: u8 = 10;
+
+// No transcript is longer, whatever the input.
+pub const TEXT_LIMIT: usize = 360454;
+
+// Nothing is written before it is known that every transcript fits.
+pub fn transcript(input: &[u8], text: &mut [u8]) -> Printed
+    ensures answer { λ r. ⌜ r ≡ transcriptAnswer (now (input .entry)) (now (text .entry)) ⌝ }
+    ensures text { λ r. ⌜ now (text .exit) ≡ transcriptText (now (input .entry)) (now (text .entry)) ⌝ }
+{
+    if text.len() < TEXT_LIMIT {
+        return Printed::TextTooShort;
+    }
+    let n = crate::start::put_transcript(input, text);
+    Printed::Bytes(n)
+}
