@@ -1,0 +1,88 @@
+-- What each exported function owes its caller, by the definitions of crate chain, with the answer as one number.
+use Prim.Native.Nat.{ℕ}
+use mathlib.Core.Path.{_≡_, sym, ap, _∙_, subst}
+use mathlib.Core.List.{List}
+use lib.ListN.{length, take, drop}
+use Rattle.checks.specs.Checks.{Check, Outcome, stops, goes, outcome, first}
+use Rattle.chain.specs.declared.answer.Refusal.{Refusal}
+use Rattle.chain.specs.declared.answer.Answer.{Answer}
+use Rattle.chain.specs.declared.answer.Answer.the-variants.{Done, Refused}
+use Rattle.chain.specs.declared.answer.ChainAnswer.{ChainAnswer}
+use Rattle.chain.specs.declared.answer.ChainAnswer.the-variants as chain
+use Rattle.chain.specs.Answers.{answerNumber}
+use Rattle.chain.specs.Steps.{Step}
+use Rattle.chain.specs.Operations.{Buffers, stepAnswer, afterStep, freshChecks, freshAnswer, afterFresh}
+use Rattle.chain.specs.Operations.{readLedgerChecks, readLedgerAnswer, readLedgerPart, readChainAnswer, readChainOutput}
+use Rattle.chain.specs.Laws.Numbers.{NumbersBelow, step-numbers}
+use Rattle.fresh.specs.Fresh.{FreshResult}
+use Rattle.steps.specs.Results.{Result}
+use Rattle.readers.specs.Locate.{partStart, Locates}
+
+-- An operation on both buffers: its answer, and every word afterwards.
+pub record Call (a : Answer) (after : Buffers) (r : ℕ) (state entries : List ℕ) : Type 0 where
+  pub answers : r ≡ answerNumber a
+  pub state-words : state ≡ after .state
+  pub entry-words : entries ≡ after .entries
+
+abbrev pub FreshCall : ℕ → Buffers → ℕ → List ℕ → List ℕ → Type 0
+FreshCall n b = Call (freshAnswer n b) (afterFresh n b)
+
+abbrev pub StepCall : Step → Buffers → ℕ → List ℕ → List ℕ → Type 0
+StepCall x b = Call (stepAnswer x b) (afterStep x b)
+
+-- Read ledger: its answer, and where the part that it hands back begins and how many words it has.
+pub record LedgerCall (l : ℕ) (b : Buffers) (answer start count : ℕ) : Type 0 where
+  pub answers : answer ≡ answerNumber (readLedgerAnswer l b)
+  pub starts : start ≡ partStart l b
+  pub counts : count ≡ length (readLedgerPart l b)
+  pub words : take count (drop start (b .entries)) ≡ readLedgerPart l b
+
+-- Read chain: its answer and its count as two numbers, and every word of the output buffer afterwards.
+abbrev pub chainNumber : ChainAnswer → ℕ
+chainNumber (chain.Count n) = answerNumber Done
+chainNumber (chain.Refused r) = answerNumber (Refused r)
+
+abbrev pub chainCount : ChainAnswer → ℕ
+chainCount (chain.Count n) = n
+chainCount (chain.Refused r) = 0
+
+pub record ChainCall (b : Buffers) (output : List ℕ) (answer count : ℕ) (after : List ℕ) : Type 0 where
+  pub answers : answer ≡ chainNumber (readChainAnswer b output)
+  pub counts : count ≡ chainCount (readChainAnswer b output)
+  pub output-words : after ≡ readChainOutput b output
+
+-- Fresh and read ledger number no entry.
+numbers-none : (cs : List (Check Refusal)) → NumbersBelow (first cs Refused Done)
+numbers-none cs = at _ (outcome cs Refused Done)
+  where
+    at : (a : Answer) → Outcome cs Refused Done a → NumbersBelow a
+    at a (stops r e) = subst NumbersBelow (sym e) tt
+    at a (goes p e) = subst NumbersBelow (sym e) tt
+
+-- What each operation answers has a number, and with it the call is as owed.
+module _ {n : ℕ} {b : Buffers} {a : Answer} {state entries : List ℕ} (o : FreshResult n b a state entries) where
+  pub fresh-small : NumbersBelow a
+  unfolding freshAnswer
+  fresh-small = subst NumbersBelow (sym (o .answers)) (numbers-none (freshChecks n b))
+
+  pub fresh-called : {r : ℕ} → r ≡ answerNumber a → FreshCall n b r state entries
+  fresh-called e = record { answers = e ∙ ap answerNumber (o .answers); state-words = o .state-words; entry-words = o .entry-words }
+
+module _ {x : Step} {b : Buffers} {a : Answer} {state entries : List ℕ} (o : Result x b a state entries) where
+  pub step-small : NumbersBelow a
+  step-small = subst NumbersBelow (sym (o .answers)) (step-numbers x b)
+
+  pub step-called : {r : ℕ} → r ≡ answerNumber a → StepCall x b r state entries
+  step-called e = record { answers = e ∙ ap answerNumber (o .answers); state-words = o .state-words; entry-words = o .entry-words }
+
+module _ {l : ℕ} {b : Buffers} {a : Answer} {start count : ℕ} (o : Locates l b a start count) where
+  pub ledger-small : NumbersBelow a
+  unfolding readLedgerAnswer
+  ledger-small = subst NumbersBelow (sym (o .answers)) (numbers-none (readLedgerChecks l b))
+
+  pub ledger-called : {r : ℕ} → r ≡ answerNumber a → LedgerCall l b r start count
+  ledger-called e = record { answers = e ∙ ap answerNumber (o .answers); starts = o .starts; counts = o .counts; words = o .words }
+
+pub chain-called : {b : Buffers} {output after : List ℕ} {a : ChainAnswer} {r n : ℕ} → a ≡ readChainAnswer b output → after ≡ readChainOutput b output
+    → r ≡ chainNumber a → n ≡ chainCount a → ChainCall b output r n after
+chain-called e o p q = record { answers = p ∙ ap chainNumber e; counts = q ∙ ap chainCount e; output-words = o }

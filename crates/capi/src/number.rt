@@ -1,0 +1,22 @@
+// An answer as one number, since no enum crosses the boundary.
+use chain::answer::Answer;
+ghost use mathlib.Core.Path.{_≡_};
+ghost use Rattle.chain.specs.Answers.{answerNumber};
+ghost use Rattle.chain.specs.Laws.Numbers.{NumbersBelow};
+
+const REFUSED: u64 = 256;
+
+const ENTRY: u64 = 65536;
+
+pub fn answer_number(a: Answer) -> u64
+    requires { ⌜ NumbersBelow a ⌝ }
+    ensures { λ r. ⌜ r ≡ answerNumber a ⌝ }
+{
+    match a {
+        Answer::Done => 0,
+        Answer::WasClosed => 1,
+        Answer::Behind => 2,
+        Answer::Refused(r) => REFUSED + chain::answer::refusal_number(r),
+        Answer::Written(e) => ENTRY + e.0,
+    }
+}

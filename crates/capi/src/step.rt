@@ -1,0 +1,82 @@
+// The nine steps.
+use dispatch::Step;
+ghost use Rattle.chain.specs.Operations.{buffers};
+ghost use Rattle.chain.specs.Steps as kinds;
+ghost use Rattle.steps.specs.Results.{by};
+ghost use Rattle.dispatch.specs.Dispatch.{stepOf};
+ghost use Rattle.capi.specs.Calls.{StepCall};
+
+fn take(state: &mut [u64], entries: &mut [u64], step: Step) -> u64
+    ensures { λ r. ⌜ StepCall (stepOf step) (buffers (now (state .entry)) (now (entries .entry))) r (now (state .exit)) (now (entries .exit)) ⌝ }
+{
+    let a = dispatch::take_step(state, entries, step);
+    crate::number::answer_number(a)
+}
+
+#[no_mangle]
+pub extern "C" fn cindrolf_name(state: &mut [u64], entries: &mut [u64], client: u64) -> u64
+    ensures { λ r. ⌜ StepCall (by client kinds.name) (buffers (now (state .entry)) (now (entries .entry))) r (now (state .exit)) (now (entries .exit)) ⌝ }
+{
+    take(state, entries, Step::Name(client))
+}
+
+#[no_mangle]
+pub extern "C" fn cindrolf_become(state: &mut [u64], entries: &mut [u64], client: u64) -> u64
+    ensures { λ r. ⌜ StepCall (by client kinds.become) (buffers (now (state .entry)) (now (entries .entry))) r (now (state .exit)) (now (entries .exit)) ⌝ }
+{
+    take(state, entries, Step::Become(client))
+}
+
+#[no_mangle]
+pub extern "C" fn cindrolf_abdicate(state: &mut [u64], entries: &mut [u64], client: u64) -> u64
+    ensures { λ r. ⌜ StepCall (by client kinds.abdicate) (buffers (now (state .entry)) (now (entries .entry))) r (now (state .exit)) (now (entries .exit)) ⌝ }
+{
+    take(state, entries, Step::Abdicate(client))
+}
+
+#[no_mangle]
+pub extern "C" fn cindrolf_fetch(state: &mut [u64], entries: &mut [u64], client: u64) -> u64
+    ensures { λ r. ⌜ StepCall (by client kinds.fetch) (buffers (now (state .entry)) (now (entries .entry))) r (now (state .exit)) (now (entries .exit)) ⌝ }
+{
+    take(state, entries, Step::Fetch(client))
+}
+
+#[no_mangle]
+pub extern "C" fn cindrolf_close_last(state: &mut [u64], entries: &mut [u64], client: u64) -> u64
+    ensures { λ r. ⌜ StepCall (by client kinds.closeLast) (buffers (now (state .entry)) (now (entries .entry))) r (now (state .exit)) (now (entries .exit)) ⌝ }
+{
+    take(state, entries, Step::CloseLast(client))
+}
+
+#[no_mangle]
+pub extern "C" fn cindrolf_create(state: &mut [u64], entries: &mut [u64], client: u64) -> u64
+    ensures { λ r. ⌜ StepCall (by client kinds.create) (buffers (now (state .entry)) (now (entries .entry))) r (now (state .exit)) (now (entries .exit)) ⌝ }
+{
+    take(state, entries, Step::Create(client))
+}
+
+#[no_mangle]
+pub extern "C" fn cindrolf_append(state: &mut [u64], entries: &mut [u64], client: u64) -> u64
+    ensures { λ r. ⌜ StepCall (by client kinds.append) (buffers (now (state .entry)) (now (entries .entry))) r (now (state .exit)) (now (entries .exit)) ⌝ }
+{
+    take(state, entries, Step::Append(client))
+}
+
+#[no_mangle]
+pub extern "C" fn cindrolf_write(
+    state: &mut [u64],
+    entries: &mut [u64],
+    client: u64,
+    value: u64,
+) -> u64
+    ensures { λ r. ⌜ StepCall (by client (kinds.write value)) (buffers (now (state .entry)) (now (entries .entry))) r (now (state .exit)) (now (entries .exit)) ⌝ }
+{
+    take(state, entries, Step::Write(client, value))
+}
+
+#[no_mangle]
+pub extern "C" fn cindrolf_close_own(state: &mut [u64], entries: &mut [u64], client: u64) -> u64
+    ensures { λ r. ⌜ StepCall (by client kinds.closeOwn) (buffers (now (state .entry)) (now (entries .entry))) r (now (state .exit)) (now (entries .exit)) ⌝ }
+{
+    take(state, entries, Step::CloseOwn(client))
+}

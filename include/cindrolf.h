@@ -1,0 +1,129 @@
+/* The log for controllers in C, C++ and Rust: the functions of target/staticlib/libcapi.a, which `rt staticlib capi` proves and builds.
+ *
+ * A log lives in two buffers of 64-bit words that the caller lends, one for the state and one for the entries. Nobody else writes them.
+ * Persist both together after every step that is not refused.
+ *
+ * Buffers of any length and content are answered, and so is every number. What the caller answers for: a pointer is not null, is aligned
+ * for uint64_t and is valid for as many words as the length beside it says; the buffers of one call do not overlap; and no other thread
+ * uses them during the call.
+ *
+ * Rust declares the same functions in an `extern "C"` block, and the two structs as #[repr(C)].
+ */
+#ifndef CINDROLF_H
+#define CINDROLF_H
+
+#include <stddef.h>
+#include <stdint.h>
+#ifndef __cplusplus
+#include <stdbool.h>
+#endif
+
+#ifdef __cplusplus
+extern "C" {
+#endif
+
+/* The lengths of the two buffers, in words. */
+#define CINDROLF_STATE_WORDS 527
+#define CINDROLF_ENTRY_WORDS 4096
+
+/* What an operation answers. Refusal n is CINDROLF_REFUSED + n, and entry number e is CINDROLF_ENTRY + e. */
+#define CINDROLF_DONE UINT64_C(0)
+#define CINDROLF_WAS_CLOSED UINT64_C(1)
+#define CINDROLF_BEHIND UINT64_C(2)
+#define CINDROLF_REFUSED UINT64_C(256)
+#define CINDROLF_ENTRY UINT64_C(65536)
+
+/* The refusals. The first that applies is given; it changes no word of any buffer. */
+#define CINDROLF_REFUSAL_WRONG_LENGTH UINT64_C(1)       /* a buffer has another length than those above */
+#define CINDROLF_REFUSAL_NOT_WELL_FORMED UINT64_C(2)    /* the buffers hold no log */
+#define CINDROLF_REFUSAL_UNKNOWN_CLIENT UINT64_C(3)     /* the client is not below the client count */
+#define CINDROLF_REFUSAL_ALREADY_NAMED UINT64_C(4)      /* the client is the named leader */
+#define CINDROLF_REFUSAL_ALREADY_LEADS UINT64_C(5)      /* the client leads already */
+#define CINDROLF_REFUSAL_NOT_NAMED UINT64_C(6)          /* the client is not the named leader */
+#define CINDROLF_REFUSAL_DOES_NOT_LEAD UINT64_C(7)      /* the client does not lead */
+#define CINDROLF_REFUSAL_OTHER_STAGE UINT64_C(8)        /* the client is at another stage than this step's */
+#define CINDROLF_REFUSAL_IMPOSSIBLE_MEMORY UINT64_C(9)  /* what the client remembers can't be; never met from a fresh log */
+#define CINDROLF_REFUSAL_NO_LEDGER_NUMBER UINT64_C(10)  /* all 255 ledgers are created */
+#define CINDROLF_REFUSAL_VALUE_TOO_WIDE UINT64_C(11)    /* the value is 2^52 or more */
+#define CINDROLF_REFUSAL_LEDGER_FENCED UINT64_C(12)     /* another leader has fenced the client's ledger */
+#define CINDROLF_REFUSAL_LOG_FULL UINT64_C(13)          /* there are 4096 entries */
+#define CINDROLF_REFUSAL_LEDGER_EMPTY UINT64_C(14)      /* the client's ledger has no entry and is not fenced */
+#define CINDROLF_REFUSAL_NOT_LISTED UINT64_C(15)        /* the ledger is not in the list */
+#define CINDROLF_REFUSAL_OUTPUT_TOO_SHORT UINT64_C(16)  /* the output buffer is shorter than the reading */
+#define CINDROLF_REFUSAL_CLIENT_COUNT UINT64_C(17)      /* the client count is 0 or above 16 */
+
+/* The parts of an entry's word: ledger number (0 in what cindrolf_read_chain writes), client, and value. */
+static inline uint64_t cindrolf_word_ledger(uint64_t word) { return word >> 56; }
+static inline uint64_t cindrolf_word_client(uint64_t word) { return (word >> 52) & 15; }
+static inline uint64_t cindrolf_word_value(uint64_t word) { return word & ((UINT64_C(1) << 52) - 1); }
+
+/* Makes the buffers an empty log for 1 to 16 clients, of which client 0 is the named leader, and answers done.
+ * A refusal (1 or 17) changes nothing. */
+uint64_t cindrolf_fresh(uint64_t *state, size_t state_length, uint64_t *entries, size_t entries_length, uint64_t client_count);
+
+/* Whether the buffers have the right lengths and hold a log: true exactly where no operation gives refusal 1 or 2. It changes nothing. */
+bool cindrolf_well_formed(const uint64_t *state, size_t state_length, const uint64_t *entries, size_t entries_length);
+
+/* The nine steps. Each first gives refusal 1, 2 or 3 where one applies, then those named at the step, in their order. A refusal changes
+ * nothing. */
+
+/* The client becomes the named leader: done, or refusal 4. */
+uint64_t cindrolf_name(uint64_t *state, size_t state_length, uint64_t *entries, size_t entries_length, uint64_t client);
+
+/* The named client starts to lead, and has to fetch next: done, or refusal 5 or 6. */
+uint64_t cindrolf_become(uint64_t *state, size_t state_length, uint64_t *entries, size_t entries_length, uint64_t client);
+
+/* A leader that is no longer named stops leading: done, or refusal 7 or 4. */
+uint64_t cindrolf_abdicate(uint64_t *state, size_t state_length, uint64_t *entries, size_t entries_length, uint64_t client);
+
+/* The leader remembers the list's length and last ledger, which it has to close next; with an empty list it has to create one.
+ * Done, or refusal 7 or 8. */
+uint64_t cindrolf_fetch(uint64_t *state, size_t state_length, uint64_t *entries, size_t entries_length, uint64_t client);
+
+/* The leader closes and fences the ledger that it fetched: done. If that was closed when fetched, it stays as it is: was closed. After
+ * either the leader has to create one. If it was closed since: behind, and the leader has to fetch again. Or refusal 7, 8 or 9. */
+uint64_t cindrolf_close_last(uint64_t *state, size_t state_length, uint64_t *entries, size_t entries_length, uint64_t client);
+
+/* The leader creates an open ledger with the next number, and has to append it next: done, or refusal 7, 8 or 10. */
+uint64_t cindrolf_create(uint64_t *state, size_t state_length, uint64_t *entries, size_t entries_length, uint64_t client);
+
+/* The leader's new ledger goes to the end of the list, and the leader may write: done. If the list has grown since the client last fetched
+ * or appended: behind, and the client stops leading. Or refusal 7, 8 or 9. */
+uint64_t cindrolf_append(uint64_t *state, size_t state_length, uint64_t *entries, size_t entries_length, uint64_t client);
+
+/* The leader adds an entry to its ledger: CINDROLF_ENTRY + its number, from 0, or refusal 11, 7, 8, 9, 12 or 13.
+ * Who is named leader plays no part. */
+uint64_t cindrolf_write(uint64_t *state, size_t state_length, uint64_t *entries, size_t entries_length, uint64_t client, uint64_t value);
+
+/* The leader closes its own ledger, without a fence, and has to create one next: done. If another closed it: behind, and the client stops
+ * leading. Or refusal 7, 8, 9 or 14. */
+uint64_t cindrolf_close_own(uint64_t *state, size_t state_length, uint64_t *entries, size_t entries_length, uint64_t client);
+
+/* One ledger's part of the entry buffer: the words entries[start] to entries[start + count - 1]. Both are 0 where it is empty. */
+struct cindrolf_ledger_part {
+    uint64_t answer;
+    uint64_t start;
+    uint64_t count;
+};
+
+/* Says where in the entry buffer a listed ledger's entries are: done, or refusal 1, 2 or 15 with an empty part. It changes nothing. */
+struct cindrolf_ledger_part cindrolf_read_ledger(const uint64_t *state, size_t state_length, const uint64_t *entries, size_t entries_length,
+                                                 uint64_t ledger);
+
+/* How many words cindrolf_read_chain wrote, 0 on a refusal. */
+struct cindrolf_chain_count {
+    uint64_t answer;
+    uint64_t count;
+};
+
+/* Writes the entries of all listed ledgers, in the order of the list, to the front of the output buffer, each without its ledger number;
+ * the words after them stay. Done, or refusal 1, 2 or 16, which changes nothing. CINDROLF_ENTRY_WORDS words of output are enough for
+ * every log that began with cindrolf_fresh. */
+struct cindrolf_chain_count cindrolf_read_chain(const uint64_t *state, size_t state_length, const uint64_t *entries, size_t entries_length,
+                                                uint64_t *output, size_t output_length);
+
+#ifdef __cplusplus
+}
+#endif
+
+#endif
