@@ -1,0 +1,209 @@
+//! What a write, the check and a reading cost, beside plain Rust, in one run. See `--help`.
+
+mod checks;
+mod measure;
+mod plot;
+
+use cindrolf::calls;
+use compare::call::Buffers;
+use compare::logs::chain;
+use measure::{Candidate, Times, interleaved};
+use model::{Step, words};
+use plot::{Line, Panel};
+use std::hint::black_box;
+use std::path::{Path, PathBuf};
+use std::process::ExitCode;
+use std::time::Duration;
+
+const HELP: &str = "\
+Times a write, the check and a reading of the proved library beside plain Rust, in turn.
+
+  --rounds N     rounds for each table (default 201)
+  --plot FILE    where the plot of cost against entries and ledgers goes (default target/bench/cost.svg)
+  --no-plot      without it
+  --help         this text";
+
+const SLICE: Duration = Duration::from_micros(500);
+
+struct Options {
+    rounds: usize,
+    plot: Option<PathBuf>,
+}
+
+fn options(mut args: impl Iterator<Item = String>) -> Result<Options, String> {
+    let mut options = Options { rounds: 201, plot: Some("target/bench/cost.svg".into()) };
+    while let Some(arg) = args.next() {
+        let mut next = || args.next().ok_or(format!("{arg} wants a word after it"));
+        match arg.as_str() {
+            "--rounds" => {
+                let text = next()?;
+                let rounds = text.parse().ok().filter(|&rounds| rounds > 0);
+                options.rounds = rounds.ok_or(format!("--rounds wants a number from 1, not '{text}'"))?;
+            }
+            "--plot" => options.plot = Some(next()?.into()),
+            "--no-plot" => options.plot = None,
+            _ => return Err(format!("unknown option '{arg}'\n\n{HELP}")),
+        }
+    }
+    Ok(options)
+}
+
+/// Does a write by client 0 and undoes it, so that each write meets the same log.
+fn write<'a, T>(name: &'static str, log: &Buffers, write: impl Fn(&mut [u64], &mut [u64]) -> T + 'a) -> Candidate<'a> {
+    let mut log = log.clone();
+    let (head, count) = (log.state[0], (log.state[0] >> 51) as usize);
+    Candidate::new(name, move || {
+        black_box(write(black_box(&mut log.state), black_box(&mut log.entries)));
+        log.state[0] = head;
+        log.entries[count] = 0;
+    })
+}
+
+fn check<'a, T>(name: &'static str, log: &'a Buffers, check: impl Fn(&[u64], &[u64]) -> T + 'a) -> Candidate<'a> {
+    Candidate::new(name, move || {
+        black_box(check(black_box(&log.state), black_box(&log.entries)));
+    })
+}
+
+fn read<'a, T>(
+    name: &'static str,
+    log: &'a Buffers,
+    read: impl Fn(&[u64], &[u64], &mut [u64]) -> T + 'a,
+) -> Candidate<'a> {
+    let mut output = vec![0; 4096];
+    Candidate::new(name, move || {
+        black_box(read(black_box(&log.state), black_box(&log.entries), black_box(&mut output)));
+    })
+}
+
+fn writes(log: &Buffers) -> Vec<Candidate<'_>> {
+    assert!(calls::write(&mut log.state.clone(), &mut log.entries.clone(), 0, 7).is_ok());
+    vec![
+        write("library", log, |state, entries| calls::write(state, entries, 0, 7)),
+        write("model", log, |state, entries| words::step(state, entries, 0, Step::Write(7))),
+        write("append, no check", log, |state, entries| checks::trusting_write(state, entries, 0, 7)),
+        check("or over the words", log, checks::limit),
+    ]
+}
+
+fn all_checks(log: &Buffers) -> Vec<Candidate<'_>> {
+    assert!(calls::well_formed(&log.state, &log.entries));
+    vec![
+        check("library", log, calls::well_formed),
+        check("model", log, words::well_formed),
+        check("idiomatic Rust", log, checks::idiomatic),
+        check("branch-free Rust", log, checks::branch_free),
+        check("or over the words", log, checks::limit),
+    ]
+}
+
+fn reads(log: &Buffers) -> Vec<Candidate<'_>> {
+    vec![
+        read("library", log, calls::read_chain),
+        read("model", log, words::read_chain),
+        read("copy, no check", log, checks::trusting_read),
+        check("or over the words", log, checks::limit),
+    ]
+}
+
+fn print(log: &str, operation: &str, times: &[Times]) {
+    for each in times {
+        let (time, ratio) = (each.nanoseconds, each.ratio);
+        println!(
+            "{log:<26} {operation:<10} {:<18} {:>9.1} ({:>8.1} .. {:>8.1})   {:>7.2} ({:>6.2} .. {:>6.2})",
+            each.name, time.median, time.low, time.high, ratio.median, ratio.low, ratio.high
+        );
+    }
+}
+
+/// What the first line of a file of /proc that begins with this says.
+fn about(file: &str, key: &str) -> String {
+    let text = std::fs::read_to_string(file).unwrap_or_default();
+    let line = text.lines().find(|line| line.starts_with(key)).unwrap_or("unknown");
+    line.rsplit(": ").next().unwrap_or(line).trim().into()
+}
+
+fn tables(rounds: usize) {
+    println!("Processor: {}. Load before: {}.", about("/proc/cpuinfo", "model name"), about("/proc/loadavg", ""));
+    println!(
+        "Median and quartiles over {rounds} rounds. The ratio is the library's time divided by the row's, round by round."
+    );
+    println!(
+        "{:<26} {:<10} {:<18} {:>32}   {:>25}",
+        "log", "operation", "candidate", "ns a call (quartiles)", "ratio (quartiles)"
+    );
+    let logs = [
+        ("empty", chain(1, 1, 0), chain(1, 1, 0)),
+        ("255 ledgers, 255 entries", chain(16, 255, 255), chain(16, 255, 255)),
+        ("full", chain(16, 255, 4095), chain(16, 255, 4096)),
+    ];
+    for (name, to_write, to_read) in &logs {
+        print(name, "write", &interleaved(writes(to_write), rounds, SLICE));
+        print(name, "check", &interleaved(all_checks(to_read), rounds, SLICE));
+        print(name, "read chain", &interleaved(reads(to_read), rounds, SLICE));
+    }
+    println!(
+        "On the full log the write is the one that fills it, entry 4,095. Load after: {}.",
+        about("/proc/loadavg", "")
+    );
+}
+
+/// Times by a number that grows, as lines.
+fn grow(title: &'static str, steps: &[u64], rounds: usize, log: impl Fn(u64) -> Buffers) -> Panel {
+    let mut lines: Vec<Line> = vec![];
+    for &step in steps {
+        let log = log(step);
+        let candidates = vec![
+            write("library write", &log, |state, entries| calls::write(state, entries, 0, 7)),
+            check("library check", &log, calls::well_formed),
+            check("idiomatic check", &log, checks::idiomatic),
+            check("branch-free check", &log, checks::branch_free),
+            check("or over the words", &log, checks::limit),
+        ];
+        for (index, times) in interleaved(candidates, rounds, SLICE).iter().enumerate() {
+            if index == lines.len() {
+                lines.push(Line { name: times.name, points: vec![] });
+            }
+            lines[index].points.push((step as f64, times.nanoseconds.median));
+        }
+    }
+    Panel { title, lines }
+}
+
+fn draw(path: &Path, rounds: usize) -> std::io::Result<()> {
+    let entries: Vec<u64> = (0..8).map(|step| step * 512).chain([4095]).collect();
+    let ledgers: Vec<u64> = [1, 32, 64, 96, 128, 160, 192, 224, 255].to_vec();
+    let panels = [
+        grow("entries, in one ledger", &entries, rounds, |entries| chain(1, 1, entries)),
+        grow("ledgers, of one entry each", &ledgers, rounds, |ledgers| chain(1, ledgers, ledgers)),
+    ];
+    if let Some(folder) = path.parent() {
+        std::fs::create_dir_all(folder)?;
+    }
+    std::fs::write(path, plot::svg(&panels))?;
+    println!("The plot is in {}.", path.display());
+    Ok(())
+}
+
+fn main() -> ExitCode {
+    let args: Vec<String> = std::env::args().skip(1).collect();
+    if args.iter().any(|arg| arg == "--help") {
+        println!("{HELP}");
+        return ExitCode::SUCCESS;
+    }
+    let options = match options(args.into_iter()) {
+        Ok(options) => options,
+        Err(text) => {
+            eprintln!("bench: {text}");
+            return ExitCode::from(2);
+        }
+    };
+    tables(options.rounds);
+    match options.plot.map(|path| draw(&path, options.rounds.div_ceil(3))) {
+        Some(Err(error)) => {
+            eprintln!("bench: the plot can't be written: {error}");
+            ExitCode::FAILURE
+        }
+        _ => ExitCode::SUCCESS,
+    }
+}

@@ -1,0 +1,94 @@
+//! Times several candidates in turn, round by round, so that whatever slows the machine slows them all.
+
+use std::time::{Duration, Instant};
+
+/// Something to time: a name, and a function that does it so many times.
+pub struct Candidate<'a> {
+    /// What it is.
+    pub name: &'static str,
+    /// Does it so many times.
+    pub run: Box<dyn FnMut(u32) + 'a>,
+}
+
+impl<'a> Candidate<'a> {
+    /// A candidate that does this once each time.
+    pub fn new(name: &'static str, mut once: impl FnMut() + 'a) -> Self {
+        let run = move |times: u32| (0..times).for_each(|_| once());
+        Candidate { name, run: Box::new(run) }
+    }
+}
+
+/// The quartiles of some numbers.
+#[derive(Clone, Copy, Debug, PartialEq)]
+pub struct Spread {
+    /// A quarter is below it.
+    pub low: f64,
+    /// Half is below it.
+    pub median: f64,
+    /// A quarter is above it.
+    pub high: f64,
+}
+
+impl Spread {
+    /// The quartiles of these, which aren't empty.
+    pub fn of(mut numbers: Vec<f64>) -> Self {
+        numbers.sort_by(f64::total_cmp);
+        let at = |part: f64| numbers[((numbers.len() - 1) as f64 * part).round() as usize];
+        Spread { low: at(0.25), median: at(0.5), high: at(0.75) }
+    }
+}
+
+/// A candidate's times.
+pub struct Times {
+    /// What it is.
+    pub name: &'static str,
+    /// Nanoseconds for one.
+    pub nanoseconds: Spread,
+    /// The first candidate's time divided by this one's, taken within each round.
+    pub ratio: Spread,
+}
+
+fn time(candidate: &mut Candidate, times: u32) -> Duration {
+    let start = Instant::now();
+    (candidate.run)(times);
+    start.elapsed()
+}
+
+/// How many times make a slice long enough for the clock.
+fn calibrate(candidate: &mut Candidate, slice: Duration) -> u32 {
+    let mut times = 1;
+    while time(candidate, times) < slice && times < 1 << 24 {
+        times *= 2;
+    }
+    times
+}
+
+/// Times the candidates in turn, for so many rounds of one slice each.
+pub fn interleaved(mut candidates: Vec<Candidate>, rounds: usize, slice: Duration) -> Vec<Times> {
+    let times: Vec<u32> = candidates.iter_mut().map(|candidate| calibrate(candidate, slice)).collect();
+    let mut taken = vec![vec![]; candidates.len()];
+    for _ in 0..rounds {
+        for ((candidate, &times), taken) in candidates.iter_mut().zip(&times).zip(&mut taken) {
+            taken.push(time(candidate, times).as_nanos() as f64 / times as f64);
+        }
+    }
+    let ratio = |other: &Vec<f64>| taken[0].iter().zip(other).map(|(first, other)| first / other).collect();
+    let both = candidates.iter().zip(&taken);
+    both.map(|(candidate, taken)| Times {
+        name: candidate.name,
+        nanoseconds: Spread::of(taken.clone()),
+        ratio: Spread::of(ratio(taken)),
+    })
+    .collect()
+}
+
+#[cfg(test)]
+mod tests {
+    use super::*;
+
+    #[test]
+    fn quartiles() {
+        let spread = Spread::of(vec![5.0, 1.0, 4.0, 2.0, 3.0]);
+        assert_eq!(spread, Spread { low: 2.0, median: 3.0, high: 4.0 });
+    }
+}

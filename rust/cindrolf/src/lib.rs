@@ -1,0 +1,72 @@
+//! The chained run log for controllers in Rust: safe functions over a library that is proved.
+//!
+//! A log lives in two buffers of 64-bit words, [`STATE_WORDS`] of state and [`ENTRY_WORDS`] of entries. A [`Log`] owns
+//! them; a [`LogMut`] or a [`LogRef`] borrows them from wherever they are kept; the functions of [`calls`] take plain
+//! slices. All of them answer buffers of any length and content, and any number. A [`Refusal`] changes nothing.
+//!
+//! Persist both buffers together after every step that isn't refused.
+//!
+//! Two controllers, of which the second takes over the lead:
+//!
+//! ```
+//! use cindrolf::{Answer, Log, Refusal, client_of, value_of};
+//!
+//! let mut log = Log::fresh(3)?;
+//! log.become_leader(0)?;
+//! log.fetch(0)?;
+//! log.create(0)?;
+//! log.append(0)?;
+//! assert_eq!(log.write(0, 7), Ok(Answer::Entry(0)));
+//!
+//! log.name(1)?;
+//! log.become_leader(1)?;
+//! log.fetch(1)?;
+//! assert_eq!(log.close_last(1), Ok(Answer::Done));
+//! // From now on the old leader is turned away.
+//! assert_eq!(log.write(0, 8), Err(Refusal::LedgerFenced));
+//! log.create(1)?;
+//! log.append(1)?;
+//! assert_eq!(log.write(1, 9), Ok(Answer::Entry(1)));
+//! assert_eq!(log.close_own(0), Ok(Answer::Behind));
+//!
+//! let mut output = [0; cindrolf::ENTRY_WORDS];
+//! let count = log.read_chain(&mut output)?;
+//! let chain: Vec<_> = output[..count].iter().map(|&word| (client_of(word), value_of(word))).collect();
+//! assert_eq!(chain, [(0, 7), (1, 9)]);
+//! # Ok::<(), Refusal>(())
+//! ```
+
+#![deny(missing_docs)]
+#![deny(unsafe_op_in_unsafe_fn)]
+
+mod answer;
+pub mod calls;
+mod log;
+mod raw;
+
+pub use answer::{Answer, Refusal};
+pub use log::{Log, LogMut, LogRef};
+
+/// Words in a state buffer.
+pub const STATE_WORDS: usize = 527;
+/// Words in an entry buffer.
+pub const ENTRY_WORDS: usize = 4096;
+/// The most clients that a log serves.
+pub const MAX_CLIENTS: u64 = 16;
+/// The largest value that an entry holds.
+pub const MAX_VALUE: u64 = (1 << 52) - 1;
+
+/// The ledger number in an entry's word. It is 0 in the words that read chain writes.
+pub const fn ledger_of(word: u64) -> u64 {
+    word >> 56
+}
+
+/// The client in an entry's word.
+pub const fn client_of(word: u64) -> u64 {
+    (word >> 52) & 15
+}
+
+/// The value in an entry's word.
+pub const fn value_of(word: u64) -> u64 {
+    word & MAX_VALUE
+}

@@ -1,0 +1,233 @@
+//! Buffers of any kind: well formed and from no fresh log, nearly well formed, random, and of wrong lengths.
+
+use crate::call::{Buffers, Call, Subject};
+use crate::shrink;
+use crate::sides::Sides;
+use model::histories::{any_client, any_value};
+use model::layout::{Client, ENTRY_WORDS, Entry, Head, Ledger, NONE, Place, STATE_WORDS, client_index};
+use model::random::Random;
+use model::{Step, words};
+
+/// Compares every operation on one pair of buffers, each several times. The error is a report.
+pub fn compare(subject: Subject, sides: &mut Sides, random: &mut Random) -> Result<(), String> {
+    let mut buffers = any_buffers(random);
+    sides.set(&buffers);
+    for call in calls(random, &buffers) {
+        if call == Call::ReadChain {
+            buffers.output = any_output(random, &buffers);
+            sides.set(&buffers);
+        }
+        match sides.call(call) {
+            Ok(outcome) if outcome.changes() => sides.set(&buffers),
+            Ok(_) => {}
+            Err(_) => return Err(shrink::report(subject, call, &buffers)),
+        }
+    }
+    Ok(())
+}
+
+/// The calls to try: each step by a client at any stage and by one at the step's own stage, then the others.
+fn calls(random: &mut Random, buffers: &Buffers) -> Vec<Call> {
+    let head = Head::load(buffers.state.first().copied().unwrap_or(0)).0;
+    let mut calls = vec![Call::WellFormed, Call::ReadChain, Call::ReadChain];
+    for (index, mut step) in Step::ALL.into_iter().enumerate() {
+        if let Step::Write(value) = &mut step {
+            *value = any_value(random);
+        }
+        calls.push(Call::Step(any_client(random, head.client_count), step));
+        let stage = [0, 0, 0, 1, 2, 3, 4, 5, 5][index];
+        let fits = |client: &u64| {
+            let word = buffers.state.get(client_index(*client)).copied().unwrap_or(0);
+            Client::load(word).0.stage == stage
+        };
+        let ready: Vec<u64> = (0..head.client_count.min(16)).filter(fits).collect();
+        if !ready.is_empty() {
+            calls.push(Call::Step(random.pick(&ready), step));
+        }
+    }
+    for _ in 0..2 {
+        calls.push(Call::ReadLedger(any_ledger(random, &head, buffers)));
+        calls.push(Call::Fresh(any_count(random)));
+    }
+    calls
+}
+
+fn any_ledger(random: &mut Random, head: &Head, buffers: &Buffers) -> u64 {
+    match random.below(4) {
+        0 => random.pick(&[0, 255, 256, 257, 1 << 32, u64::MAX, head.next_ledger]),
+        1 => random.below(head.next_ledger + 1),
+        _ => {
+            let place = 272 + random.below(head.list_length.max(1)) as usize;
+            buffers.state.get(place).copied().unwrap_or(0) >> 56
+        }
+    }
+}
+
+fn any_count(random: &mut Random) -> u64 {
+    match random.below(4) {
+        0 => random.pick(&[0, 16, 17, 31, 32, 256, (1 << 32) + 1, u64::MAX]),
+        _ => random.between(1, 16),
+    }
+}
+
+/// An output buffer around the length of the reading, filled with words that show a stray store.
+fn any_output(random: &mut Random, buffers: &Buffers) -> Vec<u64> {
+    let reading = reading_length(buffers);
+    let length = match random.below(6) {
+        0 => 0,
+        1 => reading.saturating_sub(1),
+        2 => reading + 1,
+        3 => ENTRY_WORDS,
+        4 => random.below(100) as usize,
+        _ => reading,
+    };
+    (0..length as u64).map(|index| !index).collect()
+}
+
+/// The length of the chain reading, where the buffers hold a log.
+fn reading_length(buffers: &Buffers) -> usize {
+    if !words::well_formed(&buffers.state, &buffers.entries) {
+        return 0;
+    }
+    let head = Head::load(buffers.state[0]).0;
+    let mut counts = [0; 256];
+    for &word in &buffers.entries[..head.entry_count as usize] {
+        counts[Entry::load(word).ledger as usize] += 1;
+    }
+    let listed = &buffers.state[272..272 + head.list_length as usize];
+    listed.iter().map(|&word| counts[Place::load(word).0.ledger as usize]).sum()
+}
+
+/// Buffers of any kind, mostly well formed or nearly so.
+pub fn any_buffers(random: &mut Random) -> Buffers {
+    let mut buffers = if random.chance(97) { well_formed(random) } else { random_words(random) };
+    match random.below(10) {
+        0..=4 => {}
+        5..=8 => damage(random, &mut buffers),
+        _ => wrong_length(random, &mut buffers),
+    }
+    buffers
+}
+
+fn random_words(random: &mut Random) -> Buffers {
+    let state = (0..STATE_WORDS).map(|_| random.word()).collect();
+    let entries = (0..ENTRY_WORDS).map(|_| random.word()).collect();
+    Buffers { state, entries, output: vec![] }
+}
+
+fn wrong_length(random: &mut Random, buffers: &mut Buffers) {
+    let length = |random: &mut Random, right: usize| match random.below(6) {
+        0 => 0,
+        1 => 1,
+        2 => right - 1,
+        3 => right + 1,
+        4 => random.below(2 * right as u64) as usize,
+        _ => right,
+    };
+    let filler = random.pick(&[0, 0, u64::MAX]);
+    buffers.state.resize(length(random, STATE_WORDS), filler);
+    buffers.entries.resize(length(random, ENTRY_WORDS), filler);
+}
+
+/// One to three changes of words, most of them in use or just behind those in use.
+fn damage(random: &mut Random, buffers: &mut Buffers) {
+    for _ in 0..random.between(1, 3) {
+        let head = Head::load(buffers.state[0]).0;
+        let near = |random: &mut Random, first: u64, used: u64| (first + random.below(used + 2)) as usize;
+        let index = match random.below(7) {
+            0 => 0,
+            1 => near(random, 1, head.client_count),
+            2 => near(random, 17, head.next_ledger),
+            3 => near(random, 272, head.list_length),
+            4 => random.below(STATE_WORDS as u64) as usize,
+            _ => STATE_WORDS,
+        };
+        if let Some(word) = buffers.state.get_mut(index) {
+            damage_word(random, word);
+        } else {
+            let index = (random.below(head.entry_count + 2) as usize).min(ENTRY_WORDS - 1);
+            damage_word(random, &mut buffers.entries[index]);
+        }
+    }
+}
+
+fn damage_word(random: &mut Random, word: &mut u64) {
+    *word = match random.below(8) {
+        0 => random.word(),
+        1 => 0,
+        2 => word.wrapping_add(1 << random.below(64)),
+        3 => word.wrapping_sub(1 << random.below(64)),
+        _ => *word ^ (1 << random.below(64)),
+    };
+}
+
+/// A count up to a limit, often at one of its ends.
+fn any_size(random: &mut Random, limit: u64) -> u64 {
+    match random.below(6) {
+        0 => 0,
+        1 => limit,
+        2 => limit.saturating_sub(1),
+        3 => random.below(limit + 1),
+        _ => random.below(limit.min(12) + 1),
+    }
+}
+
+/// A well-formed log that mostly no fresh log leads to.
+pub fn well_formed(random: &mut Random) -> Buffers {
+    let next_ledger = 1 + any_size(random, 255);
+    let some = |size: u64| if next_ledger == 1 { 0 } else { size };
+    let client_count = random.between(1, 16);
+    let head = Head {
+        entry_count: some(any_size(random, ENTRY_WORDS as u64)),
+        next_ledger,
+        list_length: some(any_size(random, 255)),
+        leader: random.below(client_count),
+        client_count,
+    };
+    let (mut state, mut entries) = (vec![0; STATE_WORDS], vec![0; ENTRY_WORDS]);
+    state[0] = head.word();
+    for word in &mut state[1..=client_count as usize] {
+        *word = any_client_word(random, &head);
+    }
+    for word in &mut state[17..16 + next_ledger as usize] {
+        let open = random.below(2);
+        *word = Ledger { open, version: 1 - open, fenced: random.below(2) }.word();
+    }
+    for word in &mut state[272..272 + head.list_length as usize] {
+        *word = Place { ledger: random.between(1, next_ledger - 1) }.word();
+    }
+    fill_entries(random, &head, &mut entries);
+    Buffers { state, entries, output: vec![] }
+}
+
+fn any_client_word(random: &mut Random, head: &Head) -> u64 {
+    let stage = random.below(6);
+    let list_version = match random.below(8) {
+        0 => NONE,
+        1 => random.below(256),
+        2 => 255,
+        3 => (head.list_length + 1).min(255),
+        4 => head.list_length.saturating_sub(1),
+        _ => head.list_length,
+    };
+    let ledger = match random.below(5) {
+        0 => 0,
+        1 => head.next_ledger - 1,
+        _ => random.below(head.next_ledger),
+    };
+    let open = if ledger == 0 { 0 } else { random.below(2) };
+    let version = if ledger == 0 { NONE } else { 1 - open };
+    Client { leads: (stage != 0) as u64, stage, list_version, ledger, open, version }.word()
+}
+
+/// Entries whose ledger numbers never fall, in a few runs.
+fn fill_entries(random: &mut Random, head: &Head, entries: &mut [u64]) {
+    let mut ledger = 1;
+    let rise = 1 + random.below(head.entry_count.max(1));
+    for word in &mut entries[..head.entry_count as usize] {
+        if random.below(rise) == 0 && ledger < head.next_ledger - 1 {
+            ledger += random.below(head.next_ledger - ledger);
+        }
+        *word = Entry { ledger, client: random.below(head.client_count), value: random.word() >> 12 }.word();
+    }
+}

@@ -1,0 +1,115 @@
+//! Random histories from fresh logs, on the library, on the model of the words and on 002's terms.
+
+use crate::call::{Buffers, Call, Outcome, Subject};
+use crate::shrink::shorten;
+use crate::sides::Sides;
+use model::histories::Profile;
+use model::layout::{ENTRY_WORDS, STATE_WORDS};
+use model::random::Random;
+use model::source::{Source, Taken};
+use model::{Answer, Step};
+use std::fmt::Write;
+
+/// Steps of the longest history: enough to reach both limits.
+const LONGEST: u64 = 6_000;
+
+/// A history ends after so many steps that a limit turned away.
+const MOST_AT_LIMIT: u64 = 100;
+
+/// A fresh log and what comes after it.
+struct History {
+    client_count: u64,
+    calls: Vec<Call>,
+}
+
+/// One history as it runs.
+struct Run<'a> {
+    sides: &'a mut Sides,
+    source: Source,
+    at_limit: u64,
+}
+
+/// Compares one history. The error is a report with the shortest history found.
+pub fn compare(subject: Subject, sides: &mut Sides, random: &mut Random) -> Result<(), String> {
+    let profile = random.pick(&Profile::ALL);
+    let mut history = History { client_count: random.between(1, 16), calls: vec![] };
+    let length = if random.chance(20) { LONGEST } else { random.between(1, 600) };
+    let mut run = Run::start(sides, history.client_count).map_err(|text| report(subject, &history, text))?;
+    for _ in 0..length {
+        let call = match random.below(40) {
+            0 => Call::WellFormed,
+            1 => Call::ReadLedger(random.below(run.source.md_next_lid + 1)),
+            2 => Call::ReadChain,
+            _ => {
+                let (client, step) = profile.next(random, &run.source);
+                Call::Step(client, step)
+            }
+        };
+        history.calls.push(call);
+        if let Err(text) = run.take(call) {
+            return Err(report(subject, &history, text));
+        }
+        if run.at_limit > MOST_AT_LIMIT {
+            break;
+        }
+    }
+    Ok(())
+}
+
+impl<'a> Run<'a> {
+    fn start(sides: &'a mut Sides, client_count: u64) -> Result<Self, String> {
+        let output = (0..ENTRY_WORDS as u64).map(|index| !index).collect();
+        sides.set(&Buffers { state: vec![u64::MAX; STATE_WORDS], entries: vec![5; ENTRY_WORDS], output });
+        sides.call(Call::Fresh(client_count)).map_err(|difference| difference.to_string())?;
+        Ok(Run { sides, source: Source::init(client_count), at_limit: 0 })
+    }
+
+    fn take(&mut self, call: Call) -> Result<(), String> {
+        let outcome = self.sides.call(call).map_err(|difference| difference.to_string())?;
+        let agrees = match (call, &outcome) {
+            (Call::Step(client, step), Outcome::Answer(answer)) => self.source_agrees(client, step, *answer),
+            (Call::ReadLedger(ledger), Outcome::Part(part)) => {
+                self.source.ledger(ledger).is_some_and(|words| words == self.sides.buffers().entries[part.clone()])
+            }
+            (Call::ReadLedger(ledger), _) => self.source.ledger(ledger).is_none(),
+            (Call::ReadChain, Outcome::Count(count)) => self.sides.buffers().output[..*count] == self.source.chain(),
+            (_, outcome) => *outcome == Outcome::WellFormed(true),
+        };
+        if agrees { Ok(()) } else { Err(format!("{call:?}: the library gives {outcome:?}, 002 says otherwise\n")) }
+    }
+
+    fn source_agrees(&mut self, client: u64, step: Step, answer: Answer) -> bool {
+        let answers = match self.source.step(client, step) {
+            Taken::Accepted(expected) => answer == expected,
+            Taken::Limit(number) => {
+                self.at_limit += 1;
+                answer == Answer::Refused(number)
+            }
+            Taken::Forbidden => return matches!(answer, Answer::Refused(3..=8 | 11 | 12 | 14)),
+        };
+        let (state, entries) = self.source.buffers();
+        answers && state == self.sides.buffers().state && entries == self.sides.buffers().entries
+    }
+}
+
+/// What a history shows, if it fails.
+fn failure(subject: Subject, client_count: u64, calls: &[Call]) -> Option<String> {
+    let mut sides = Sides::new(subject);
+    let mut run = match Run::start(&mut sides, client_count) {
+        Ok(run) => run,
+        Err(text) => return Some(text),
+    };
+    calls.iter().find_map(|&call| run.take(call).err())
+}
+
+fn report(subject: Subject, history: &History, text: String) -> String {
+    let calls = shorten(&history.calls, |calls| failure(subject, history.client_count, calls).is_some());
+    let fewest = (1..history.client_count).find(|&count| failure(subject, count, &calls).is_some());
+    let client_count = fewest.unwrap_or(history.client_count);
+    let text = failure(subject, client_count, &calls).unwrap_or(text);
+    let mut report = format!("{text}The shortest history found that shows it:\n  Fresh({client_count})\n");
+    for call in calls {
+        let _ = writeln!(report, "  {call:?}");
+    }
+    report
+}

@@ -1,0 +1,12 @@
+//! Holds the proved library against the model: every call on both, then the answers and every word of every buffer.
+
+#![deny(missing_docs)]
+
+pub mod buffers;
+pub mod call;
+pub mod histories;
+pub mod logs;
+pub mod shrink;
+pub mod sides;
+pub mod sweep;
+pub mod tally;

@@ -1,0 +1,72 @@
+//! The logs whose every single-bit change is tried.
+
+use crate::call::{Buffers, Call};
+use model::layout::{ENTRY_WORDS, STATE_WORDS};
+use model::{Answer, Step, words};
+
+/// A log, and the step that is tried on each change of it.
+pub struct Named {
+    /// What it is.
+    pub name: &'static str,
+    /// The log.
+    pub buffers: Buffers,
+    /// A step that it accepts.
+    pub step: Call,
+}
+
+fn fresh(client_count: u64) -> Buffers {
+    let (mut state, mut entries) = (vec![0; STATE_WORDS], vec![0; ENTRY_WORDS]);
+    assert_eq!(words::fresh(&mut state, &mut entries, client_count), Answer::Done);
+    Buffers { state, entries, output: vec![] }
+}
+
+fn take(log: &mut Buffers, client: u64, steps: &[Step]) {
+    for &step in steps {
+        let answer = words::step(&mut log.state, &mut log.entries, client, step);
+        assert!(!matches!(answer, Answer::Refused(_)), "{client} {step:?}: {answer:?}");
+    }
+}
+
+const LEAD: [Step; 4] = [Step::Become, Step::Fetch, Step::Create, Step::Append];
+
+fn one_ledger() -> Buffers {
+    let mut log = fresh(2);
+    take(&mut log, 0, &LEAD);
+    take(&mut log, 0, &[Step::Write(7), Step::Write((1 << 52) - 1)]);
+    log
+}
+
+/// Client 1 has fetched, and client 0 still writes.
+fn handover() -> Buffers {
+    let mut log = one_ledger();
+    take(&mut log, 1, &[Step::Name, Step::Become, Step::Fetch]);
+    log
+}
+
+/// A log of this many ledgers, each but the last closed by its owner, with this many entries spread over them.
+pub fn chain(client_count: u64, ledgers: u64, entries: u64) -> Buffers {
+    let mut log = fresh(client_count);
+    take(&mut log, 0, &[Step::Become, Step::Fetch]);
+    let mut written = 0;
+    for ledger in 1..=ledgers {
+        take(&mut log, 0, &[Step::Create, Step::Append]);
+        while written < entries * ledger / ledgers {
+            take(&mut log, 0, &[Step::Write(written * 0x1_0001)]);
+            written += 1;
+        }
+        if ledger < ledgers {
+            take(&mut log, 0, &[Step::CloseOwn]);
+        }
+    }
+    log
+}
+
+/// Fresh, one ledger, mid-handover and full.
+pub fn all() -> Vec<Named> {
+    vec![
+        Named { name: "fresh", buffers: fresh(3), step: Call::Step(0, Step::Become) },
+        Named { name: "one ledger", buffers: one_ledger(), step: Call::Step(0, Step::Write(9)) },
+        Named { name: "mid-handover", buffers: handover(), step: Call::Step(1, Step::CloseLast) },
+        Named { name: "full", buffers: chain(16, 255, ENTRY_WORDS as u64), step: Call::Step(0, Step::CloseOwn) },
+    ]
+}

@@ -1,0 +1,120 @@
+//! Compares the proved library with the model. See `--help`.
+
+use compare::sides::Sides;
+use compare::{buffers, call, histories, logs, sweep};
+use model::random::Random;
+use std::process::ExitCode;
+use std::time::{Duration, Instant};
+
+const HELP: &str = "\
+Compares the proved library with the model: every call on both, then the answers and every word of every buffer.
+
+  --seed N    the seed of the random calls (default 1)
+  --calls N   how many random calls, half of them in histories from fresh logs, half on buffers of any kind
+              (default 1000000)
+  --no-sweep  without every single-bit change of four logs
+  --help      this text
+
+A difference is printed with the smallest case found that shows it, and the exit status is 1.";
+
+struct Options {
+    seed: u64,
+    calls: u64,
+    sweep: bool,
+}
+
+/// The options, or what to print instead of a run.
+fn options(mut args: impl Iterator<Item = String>) -> Result<Options, String> {
+    let mut options = Options { seed: 1, calls: 1_000_000, sweep: true };
+    while let Some(arg) = args.next() {
+        let mut number = || {
+            let text = args.next().ok_or(format!("{arg} wants a number"))?;
+            text.parse().map_err(|_| format!("{arg} wants a number, not '{text}'"))
+        };
+        match arg.as_str() {
+            "--seed" => options.seed = number()?,
+            "--calls" => options.calls = number()?,
+            "--no-sweep" => options.sweep = false,
+            _ => return Err(format!("unknown option '{arg}'\n\n{HELP}")),
+        }
+    }
+    Ok(options)
+}
+
+/// Prints at most every two seconds, so that a long run shows that it goes on.
+struct Progress {
+    start: Instant,
+    last: Duration,
+}
+
+impl Progress {
+    fn show(&mut self, what: &str, sides: &Sides) {
+        let now = self.start.elapsed();
+        if now - self.last >= Duration::from_secs(2) {
+            self.last = now;
+            eprintln!("compare: {:4} s, {} calls compared, {what}", now.as_secs(), sides.tally.calls());
+        }
+    }
+}
+
+fn run(options: &Options, sides: &mut Sides) -> Result<(), String> {
+    let mut progress = Progress { start: Instant::now(), last: Duration::ZERO };
+    for log in logs::all() {
+        sweep::undamaged(call::library, sides, &log)?;
+        let bits = if options.sweep { sweep::bits(&log) } else { 0 };
+        for start in (0..bits).step_by(4096) {
+            sweep::changes(call::library, sides, &log, start..bits.min(start + 4096))?;
+            progress.show(&format!("single-bit changes of the log '{}'", log.name), sides);
+        }
+    }
+    let mut random = Random::new(options.seed);
+    let (first, mut in_histories) = (sides.tally.calls(), 0);
+    loop {
+        let before = sides.tally.calls();
+        if before - first >= options.calls {
+            return Ok(());
+        }
+        if 2 * in_histories <= before - first {
+            histories::compare(call::library, sides, &mut random)?;
+            in_histories += sides.tally.calls() - before;
+        } else {
+            buffers::compare(call::library, sides, &mut random)?;
+        }
+        progress.show("random histories and buffers", sides);
+    }
+}
+
+fn main() -> ExitCode {
+    let args: Vec<String> = std::env::args().skip(1).collect();
+    if args.iter().any(|arg| arg == "--help") {
+        println!("{HELP}");
+        return ExitCode::SUCCESS;
+    }
+    let options = match options(args.into_iter()) {
+        Ok(options) => options,
+        Err(text) => {
+            eprintln!("compare: {text}");
+            return ExitCode::from(2);
+        }
+    };
+    println!("compare: seed {}, {} random calls", options.seed, options.calls);
+    let mut sides = Sides::new(call::library);
+    let start = Instant::now();
+    let result = run(&options, &mut sides);
+    print!("{}", sides.tally);
+    let never = sides.tally.never_met();
+    if !never.is_empty() {
+        println!("never met: {}", never.join(", "));
+    }
+    let seconds = start.elapsed().as_secs_f64();
+    match result {
+        Ok(()) => {
+            println!("compare: {} calls, no difference, {seconds:.1} s", sides.tally.calls());
+            ExitCode::SUCCESS
+        }
+        Err(report) => {
+            println!("compare: a difference after {} calls (seed {})\n{report}", sides.tally.calls(), options.seed);
+            ExitCode::FAILURE
+        }
+    }
+}

@@ -1,0 +1,115 @@
+//! Makes what shows a difference small before it is printed.
+
+use crate::call::{Buffers, Call, Subject};
+use crate::sides::{Difference, Sides};
+use model::layout::{ENTRY_WORDS, Head, STATE_WORDS};
+use std::fmt::Write;
+
+/// The shortest part of a list found that still fails, by dropping ever smaller pieces.
+pub fn shorten<T: Clone>(list: &[T], fails: impl Fn(&[T]) -> bool) -> Vec<T> {
+    let mut list = list.to_vec();
+    let mut size = list.len().div_ceil(2);
+    while size > 0 {
+        let mut dropped = false;
+        let mut end = list.len();
+        while end > 0 {
+            let start = end.saturating_sub(size);
+            let rest = [&list[..start], &list[end..]].concat();
+            if fails(&rest) {
+                list = rest;
+                dropped = true;
+            }
+            end = start;
+        }
+        if size > 1 || !dropped {
+            size /= 2;
+        }
+    }
+    list
+}
+
+/// What a call on these buffers shows, if the two sides part.
+pub fn difference(subject: Subject, call: Call, buffers: &Buffers) -> Option<Box<Difference>> {
+    let mut sides = Sides::new(subject);
+    sides.set(buffers);
+    sides.call(call).err()
+}
+
+/// Smaller buffers on which the call still fails: fewer entries, places, ledgers and clients, then more zero words.
+pub fn simplify(subject: Subject, call: Call, buffers: &Buffers) -> Buffers {
+    let mut best = buffers.clone();
+    let fails = |candidate: &Buffers| difference(subject, call, candidate).is_some();
+    while let Some(smaller) = cuts(&best).into_iter().find(|cut| *cut != best && fails(cut)) {
+        best = smaller;
+    }
+    for size in [512, 64, 8, 1] {
+        zero_words(&mut best, size, |buffers| &mut buffers.entries, fails);
+        zero_words(&mut best, size, |buffers| &mut buffers.state, fails);
+    }
+    best
+}
+
+/// The same log with less in it.
+fn cuts(buffers: &Buffers) -> Vec<Buffers> {
+    if buffers.state.len() != STATE_WORDS || buffers.entries.len() != ENTRY_WORDS {
+        return vec![];
+    }
+    let head = Head::load(buffers.state[0]).0;
+    let with = |head: Head| {
+        let mut cut = buffers.clone();
+        cut.state[0] = head.word();
+        cut.entries[(head.entry_count as usize).min(ENTRY_WORDS)..].fill(0);
+        cut.state[(272 + head.list_length as usize).min(STATE_WORDS)..].fill(0);
+        cut.state[(16 + head.next_ledger as usize).min(272)..272].fill(0);
+        cut.state[(1 + head.client_count as usize).min(17)..17].fill(0);
+        cut
+    };
+    let smaller = |count: u64| [0, count / 2, count.saturating_sub(1)];
+    let mut all = vec![];
+    all.extend(smaller(head.entry_count).map(|entry_count| with(Head { entry_count, ..head })));
+    all.extend(smaller(head.list_length).map(|list_length| with(Head { list_length, ..head })));
+    all.extend(smaller(head.next_ledger).map(|next_ledger| with(Head { next_ledger, ..head })));
+    all.extend(smaller(head.client_count).map(|client_count| with(Head { client_count, ..head })));
+    all
+}
+
+fn zero_words(
+    best: &mut Buffers,
+    size: usize,
+    words: impl Fn(&mut Buffers) -> &mut Vec<u64>,
+    fails: impl Fn(&Buffers) -> bool,
+) {
+    for start in (0..words(best).len()).step_by(size) {
+        let mut candidate = best.clone();
+        let end = words(best).len().min(start + size);
+        words(&mut candidate)[start..end].fill(0);
+        if candidate != *best && fails(&candidate) {
+            *best = candidate;
+        }
+    }
+}
+
+/// The lengths of the buffers and the words that aren't zero.
+pub fn describe(buffers: &Buffers) -> String {
+    let mut text = String::new();
+    for (name, words) in [("state", &buffers.state), ("entries", &buffers.entries)] {
+        let set: Vec<_> = words.iter().enumerate().filter(|(_, word)| **word != 0).collect();
+        let _ = writeln!(text, "{name}: {} words, {} not zero", words.len(), set.len());
+        for (index, word) in set.iter().take(40) {
+            let _ = writeln!(text, "  {name} word {index}: {word:#018x}");
+        }
+        if set.len() > 40 {
+            let _ = writeln!(text, "  and {} more", set.len() - 40);
+        }
+    }
+    let _ = writeln!(text, "output: {} words", buffers.output.len());
+    text
+}
+
+/// The report on a call that fails on these buffers, made small.
+pub fn report(subject: Subject, call: Call, buffers: &Buffers) -> String {
+    let small = simplify(subject, call, buffers);
+    let found = difference(subject, call, &small).or_else(|| difference(subject, call, buffers));
+    let found = found.map_or_else(|| format!("{call:?}: it failed once and no longer does\n"), |d| d.to_string());
+    format!("{found}The smallest buffers found that show it:\n{}", describe(&small))
+}

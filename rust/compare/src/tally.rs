@@ -1,0 +1,115 @@
+//! How many calls of each operation were compared, and how often each answer was met.
+
+use crate::call::{Call, Outcome};
+use model::{Answer, Step};
+use std::fmt;
+
+/// The operations, in 01's order, each with the answers that it can give: 1 to 17 are refusals.
+const OPERATIONS: [(&str, &[usize]); 13] = [
+    ("fresh", &[DONE, 1, 17]),
+    ("name", &[DONE, 1, 2, 3, 4]),
+    ("become", &[DONE, 1, 2, 3, 5, 6]),
+    ("abdicate", &[DONE, 1, 2, 3, 4, 7]),
+    ("fetch", &[DONE, 1, 2, 3, 7, 8]),
+    ("close last", &[DONE, WAS_CLOSED, BEHIND, 1, 2, 3, 7, 8, 9]),
+    ("create", &[DONE, 1, 2, 3, 7, 8, 10]),
+    ("append", &[DONE, BEHIND, 1, 2, 3, 7, 8, 9]),
+    ("write", &[ENTRY, 1, 2, 3, 7, 8, 9, 11, 12, 13]),
+    ("close own", &[DONE, BEHIND, 1, 2, 3, 7, 8, 9, 14]),
+    ("well formed", &[YES, NO]),
+    ("read ledger", &[DONE, 1, 2, 15]),
+    ("read chain", &[DONE, 1, 2, 16]),
+];
+
+const DONE: usize = 18;
+const WAS_CLOSED: usize = 19;
+const BEHIND: usize = 20;
+const ENTRY: usize = 21;
+const YES: usize = 22;
+const NO: usize = 23;
+const NAMES: [&str; 6] = ["done", "was closed", "behind", "entry", "yes", "no"];
+
+/// The counts, by operation and answer.
+#[derive(Clone, Debug, Default)]
+pub struct Tally([[u64; 24]; OPERATIONS.len()]);
+
+impl Tally {
+    /// Counts a compared call.
+    pub fn count(&mut self, call: Call, outcome: &Outcome) {
+        self.0[operation(call)][column(outcome)] += 1;
+    }
+
+    /// How many calls were compared.
+    pub fn calls(&self) -> u64 {
+        self.0.iter().flatten().sum()
+    }
+
+    /// The answers that an operation can give and that weren't met, as text.
+    pub fn never_met(&self) -> Vec<String> {
+        let mut missing = vec![];
+        for (counts, (name, answers)) in self.0.iter().zip(OPERATIONS) {
+            let unmet = answers.iter().filter(|&&answer| counts[answer] == 0);
+            missing.extend(unmet.map(|&answer| format!("{name}: {}", answer_name(answer))));
+        }
+        missing
+    }
+}
+
+fn operation(call: Call) -> usize {
+    match call {
+        Call::Fresh(_) => 0,
+        Call::Step(_, step) => match step {
+            Step::Name => 1,
+            Step::Become => 2,
+            Step::Abdicate => 3,
+            Step::Fetch => 4,
+            Step::CloseLast => 5,
+            Step::Create => 6,
+            Step::Append => 7,
+            Step::Write(_) => 8,
+            Step::CloseOwn => 9,
+        },
+        Call::WellFormed => 10,
+        Call::ReadLedger(_) => 11,
+        Call::ReadChain => 12,
+    }
+}
+
+fn column(outcome: &Outcome) -> usize {
+    match outcome {
+        Outcome::Answer(Answer::Refused(number)) => *number as usize,
+        Outcome::Answer(Answer::Done) | Outcome::Part(_) | Outcome::Count(_) => DONE,
+        Outcome::Answer(Answer::WasClosed) => WAS_CLOSED,
+        Outcome::Answer(Answer::Behind) => BEHIND,
+        Outcome::Answer(Answer::Entry(_)) => ENTRY,
+        Outcome::WellFormed(true) => YES,
+        Outcome::WellFormed(false) => NO,
+    }
+}
+
+fn answer_name(answer: usize) -> String {
+    match answer {
+        DONE.. => NAMES[answer - DONE].into(),
+        number => format!("refusal {number}"),
+    }
+}
+
+/// A line for each operation, then a line for the whole.
+impl fmt::Display for Tally {
+    fn fmt(&self, f: &mut fmt::Formatter<'_>) -> fmt::Result {
+        let mut whole = [0; 24];
+        for (counts, (name, _)) in self.0.iter().zip(OPERATIONS) {
+            line(f, name, counts)?;
+            whole.iter_mut().zip(counts).for_each(|(sum, count)| *sum += count);
+        }
+        line(f, "all", &whole)
+    }
+}
+
+fn line(f: &mut fmt::Formatter<'_>, name: &str, counts: &[u64; 24]) -> fmt::Result {
+    write!(f, "{name:<12}{:>10} calls:", counts.iter().sum::<u64>())?;
+    for answer in (DONE..24).chain(1..18).filter(|&answer| counts[answer] > 0) {
+        write!(f, "  {} {}", answer_name(answer), counts[answer])?;
+    }
+    writeln!(f)
+}

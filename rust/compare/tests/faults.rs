@@ -1,0 +1,130 @@
+//! The comparison finds planted faults and makes what shows them small; and a short run meets every answer.
+
+use compare::call::{self, Buffers, Call, Outcome, Subject};
+use compare::sides::Sides;
+use compare::{buffers, histories, logs, sweep};
+use model::layout::{Client, Head, client_index, place_index};
+use model::random::Random;
+use model::{Answer, Step};
+
+/// The first report, within this many tries.
+fn first(
+    compare: fn(Subject, &mut Sides, &mut Random) -> Result<(), String>,
+    subject: Subject,
+    tries: u64,
+) -> Option<String> {
+    let (mut sides, mut random) = (Sides::new(subject), Random::new(3));
+    (0..tries).find_map(|_| compare(subject, &mut sides, &mut random).err())
+}
+
+/// The calls in a report on a history, fresh left out.
+fn history(report: &str) -> Vec<&str> {
+    report.lines().skip_while(|line| !line.starts_with("  Fresh(")).skip(1).collect()
+}
+
+// A likely mistake: the named leader is asked on a write.
+fn refuses_unnamed(call: Call, buffers: &mut Buffers) -> Outcome {
+    let before = buffers.clone();
+    let outcome = call::model(call, buffers);
+    match (call, &outcome) {
+        (Call::Step(client, Step::Write(_)), Outcome::Answer(Answer::Entry(_)))
+            if Head::load(before.state[0]).0.leader != client =>
+        {
+            *buffers = before;
+            Outcome::Answer(Answer::Refused(6))
+        }
+        _ => outcome,
+    }
+}
+
+// Another: a closer that is behind goes on to create. The answer is right, a word isn't.
+fn behind_goes_on(call: Call, buffers: &mut Buffers) -> Outcome {
+    let outcome = call::model(call, buffers);
+    if let (Call::Step(number, Step::CloseLast), Outcome::Answer(Answer::Behind)) = (call, &outcome) {
+        let word = &mut buffers.state[client_index(number)];
+        *word = Client { stage: 3, ..Client::load(*word).0 }.word();
+    }
+    outcome
+}
+
+// The check overlooks one bit of one list place.
+fn overlooks_a_bit(call: Call, buffers: &mut Buffers) -> Outcome {
+    if call != Call::WellFormed || buffers.state.len() != 527 {
+        return call::model(call, buffers);
+    }
+    let mut masked = buffers.clone();
+    masked.state[place_index(9)] &= !1;
+    call::model(call, &mut masked)
+}
+
+// Read chain stores one word behind its reading.
+fn stray_store(call: Call, buffers: &mut Buffers) -> Outcome {
+    let outcome = call::model(call, buffers);
+    if let Outcome::Count(count) = outcome
+        && let Some(word) = buffers.output.get_mut(count)
+    {
+        *word = 0;
+    }
+    outcome
+}
+
+// A list place is taken for a ledger number, which shows only on logs with gaps.
+fn fence_by_place(call: Call, buffers: &mut Buffers) -> Outcome {
+    let listed = buffers.state.get(place_index(1)).is_some_and(|word| word >> 56 == 2);
+    match call::model(call, buffers) {
+        Outcome::Part(_) if listed => Outcome::Answer(Answer::Refused(15)),
+        outcome => outcome,
+    }
+}
+
+#[test]
+fn finds_a_refused_write() {
+    let report = first(histories::compare, refuses_unnamed, 100).expect("the fault is found");
+    // A client leads, another is named, the first writes.
+    assert!(history(&report).len() <= 7, "{report}");
+    assert!(report.contains("Refused(6)"), "{report}");
+}
+
+#[test]
+fn finds_a_wrong_word() {
+    let report = first(histories::compare, behind_goes_on, 100).expect("the fault is found");
+    // Client 0 writes, another fetches, then both close: the second is behind.
+    assert!(history(&report).len() <= 14, "{report}");
+    assert!(report.contains("state word"), "{report}");
+}
+
+#[test]
+fn finds_a_gap() {
+    let report = first(histories::compare, fence_by_place, 200).expect("the fault is found");
+    // Two create, the second appends first.
+    assert!(history(&report).len() <= 14, "{report}");
+}
+
+#[test]
+fn finds_an_overlooked_bit() {
+    let log = &logs::all()[0];
+    let mut sides = Sides::new(overlooks_a_bit);
+    let report = sweep::changes(overlooks_a_bit, &mut sides, log, 0..sweep::bits(log)).unwrap_err();
+    assert!(report.contains("with bit 0 of state word 280 changed"), "{report}");
+}
+
+#[test]
+fn finds_a_stray_store() {
+    let report = first(buffers::compare, stray_store, 1000).expect("the fault is found");
+    assert!(report.contains("entries: 4096 words, 0 not zero"), "{report}");
+}
+
+#[test]
+fn a_short_run_meets_every_answer() {
+    let (mut sides, mut random) = (Sides::new(call::library), Random::new(2));
+    for log in logs::all() {
+        sweep::undamaged(call::library, &mut sides, &log).unwrap();
+    }
+    for _ in 0..40 {
+        histories::compare(call::library, &mut sides, &mut random).unwrap();
+        for _ in 0..25 {
+            buffers::compare(call::library, &mut sides, &mut random).unwrap();
+        }
+    }
+    assert_eq!(sides.tally.never_met(), Vec::<String>::new());
+}

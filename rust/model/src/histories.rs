@@ -1,0 +1,85 @@
+//! Random histories that get somewhere: clients mostly do what comes next, and stale leaders go on for a while.
+
+use crate::Step;
+use crate::random::Random;
+use crate::source::{Source, Status};
+
+/// How a history goes, in percent.
+#[derive(Clone, Copy, Debug)]
+pub struct Profile {
+    /// How often a step is the one that comes next for its client.
+    pub sensible: u64,
+    /// How often that client is the named leader.
+    pub by_leader: u64,
+    /// How often a sensible step names another leader.
+    pub renames: u64,
+    /// How often a client that can write does so; otherwise it closes its ledger.
+    pub writes: u64,
+}
+
+impl Profile {
+    /// A few kinds of history: short leads, many ledgers, many entries, anything.
+    pub const ALL: [Profile; 5] = [
+        Profile { sensible: 90, by_leader: 60, renames: 10, writes: 60 },
+        Profile { sensible: 99, by_leader: 95, renames: 3, writes: 50 },
+        Profile { sensible: 99, by_leader: 97, renames: 0, writes: 99 },
+        Profile { sensible: 95, by_leader: 30, renames: 4, writes: 90 },
+        Profile { sensible: 20, by_leader: 50, renames: 20, writes: 70 },
+    ];
+
+    /// The next step of a history that has come to this state, and its client.
+    pub fn next(&self, random: &mut Random, log: &Source) -> (u64, Step) {
+        let count = log.c_state.len() as u64;
+        if !random.chance(self.sensible) {
+            return (any_client(random, count), any_step(random));
+        }
+        if random.chance(self.renames) {
+            return (random.below(count), Step::Name);
+        }
+        let client = if random.chance(self.by_leader) { log.md_leader } else { random.below(count) };
+        (client, self.sensible_step(random, log, client))
+    }
+
+    fn sensible_step(&self, random: &mut Random, log: &Source, client: u64) -> Step {
+        let stale = log.md_leader != client;
+        match log.c_state[client as usize].status {
+            Status::Waiting if stale => random.pick(&[Step::Become, Step::Fetch, Step::Write(0)]),
+            Status::Waiting => Step::Become,
+            _ if stale && random.chance(5) => Step::Abdicate,
+            Status::GetMdForClosing => Step::Fetch,
+            Status::CloseLastLedger => Step::CloseLast,
+            Status::PendingCreateLedger => Step::Create,
+            Status::PendingAppendLedger => Step::Append,
+            Status::HasOpenLedger if random.chance(self.writes) => Step::Write(any_value(random)),
+            Status::HasOpenLedger => Step::CloseOwn,
+        }
+    }
+}
+
+/// A client number, mostly below the count.
+pub fn any_client(random: &mut Random, count: u64) -> u64 {
+    match random.below(20) {
+        0 => count,
+        1 => random.pick(&[15, 16, 255, 256, 1 << 32, u64::MAX, count + (1 << 32)]),
+        2 => random.word(),
+        _ => random.below(count.max(1)),
+    }
+}
+
+/// A value, mostly one that fits.
+pub fn any_value(random: &mut Random) -> u64 {
+    match random.below(40) {
+        0 => random.pick(&[1 << 52, (1 << 52) + 1, 1 << 56, u64::MAX]),
+        1 => random.word(),
+        2 => random.pick(&[0, (1 << 52) - 1]),
+        _ => random.word() >> 12,
+    }
+}
+
+/// One of the nine steps.
+pub fn any_step(random: &mut Random) -> Step {
+    match random.pick(&Step::ALL) {
+        Step::Write(_) => Step::Write(any_value(random)),
+        step => step,
+    }
+}

@@ -1,0 +1,67 @@
+//! A model of the chained run log, written from the scope paper (01) and the TLA+ specification LedgerChaining (002),
+//! and from no code of the library.
+//!
+//! It says everything twice. [`words`] has the operations on buffers of any length and content, with the checks in 01's
+//! order. [`source`] has histories of a fresh log in 002's terms, where each client remembers the whole list. The test
+//! in `tests/` holds the two against each other, on random [`histories`].
+
+#![deny(missing_docs)]
+
+pub mod histories;
+pub mod layout;
+pub mod random;
+pub mod source;
+pub mod words;
+
+/// What an operation answers. A refusal carries 01's number.
+#[derive(Clone, Copy, Debug, PartialEq, Eq)]
+pub enum Answer {
+    /// The step was taken.
+    Done,
+    /// The last ledger was closed already.
+    WasClosed,
+    /// Another client was faster.
+    Behind,
+    /// The write became the entry with this number.
+    Entry(u64),
+    /// Nothing was done.
+    Refused(u64),
+}
+
+/// One of the nine steps; the client that takes it stands beside it.
+#[derive(Clone, Copy, Debug, PartialEq, Eq)]
+pub enum Step {
+    /// The client becomes the named leader.
+    Name,
+    /// The client starts to lead.
+    Become,
+    /// The client stops leading.
+    Abdicate,
+    /// The client fetches the list and the last ledger.
+    Fetch,
+    /// The client closes and fences the last ledger.
+    CloseLast,
+    /// The client creates a ledger.
+    Create,
+    /// The client appends its ledger to the list.
+    Append,
+    /// The client writes this value.
+    Write(u64),
+    /// The client closes its own ledger.
+    CloseOwn,
+}
+
+impl Step {
+    /// The nine steps, the write with a value of 0.
+    pub const ALL: [Step; 9] = [
+        Step::Name,
+        Step::Become,
+        Step::Abdicate,
+        Step::Fetch,
+        Step::CloseLast,
+        Step::Create,
+        Step::Append,
+        Step::Write(0),
+        Step::CloseOwn,
+    ];
+}

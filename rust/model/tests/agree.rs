@@ -1,0 +1,104 @@
+//! The two halves of the model against each other: 002's terms and 01's words, on random histories; and 01's examples.
+
+use model::histories::Profile;
+use model::layout::{ENTRY_WORDS, STATE_WORDS};
+use model::random::Random;
+use model::source::{Source, Taken};
+use model::{Answer, Step, words};
+
+fn fresh(client_count: u64) -> (Vec<u64>, Vec<u64>) {
+    let (mut state, mut entries) = (vec![7; STATE_WORDS], vec![7; ENTRY_WORDS]);
+    assert_eq!(words::fresh(&mut state, &mut entries, client_count), Answer::Done);
+    (state, entries)
+}
+
+/// A refusal that 002's own guards explain. 9 is not among them: it never occurs from a fresh log.
+fn guarded(answer: Answer) -> bool {
+    matches!(answer, Answer::Refused(3..=8 | 11 | 12 | 14))
+}
+
+#[test]
+fn histories_agree() {
+    let mut random = Random::new(1);
+    let mut most = (0, 0);
+    for round in 0..60 {
+        let clients = random.between(1, 16);
+        let profile = Profile::ALL[round % Profile::ALL.len()];
+        let mut source = Source::init(clients);
+        let (mut state, mut entries) = fresh(clients);
+        for _ in 0..5_000 {
+            let (client, step) = profile.next(&mut random, &source);
+            let answer = words::step(&mut state, &mut entries, client, step);
+            let agree = match source.step(client, step) {
+                Taken::Accepted(expected) => answer == expected,
+                Taken::Limit(number) => answer == Answer::Refused(number),
+                Taken::Forbidden => guarded(answer),
+            };
+            assert!(agree, "{client} {step:?}: {answer:?}");
+            assert!((&state, &entries) == (&source.buffers().0, &source.buffers().1), "after {client} {step:?}");
+        }
+        readings_agree(&source, &state, &entries);
+        most = (most.0.max(source.md_next_lid), most.1.max(source.next_entry_id));
+    }
+    assert_eq!(most, (256, 4096), "the histories reach both limits");
+}
+
+fn readings_agree(source: &Source, state: &[u64], entries: &[u64]) {
+    let mut output = vec![7; ENTRY_WORDS];
+    let count = words::read_chain(state, entries, &mut output).unwrap();
+    assert_eq!(output[..count], source.chain());
+    assert!(output[count..].iter().all(|&word| word == 7));
+    for ledger in 0..300 {
+        let part = words::read_ledger(state, entries, ledger);
+        assert_eq!(part.ok().map(|part| entries[part].to_vec()), source.ledger(ledger));
+    }
+}
+
+// 01's session.
+#[test]
+fn session() {
+    use Answer::{Behind, Done, Entry, Refused};
+    let (mut state, mut entries) = fresh(3);
+    let steps = [
+        (0, Step::Become, Done),
+        (0, Step::Fetch, Done),
+        (0, Step::Create, Done),
+        (0, Step::Append, Done),
+        (0, Step::Write(7), Entry(0)),
+        (1, Step::Name, Done),
+        (1, Step::Become, Done),
+        (1, Step::Fetch, Done),
+        (1, Step::CloseLast, Done),
+        (0, Step::Write(8), Refused(12)),
+        (1, Step::Create, Done),
+        (1, Step::Append, Done),
+        (1, Step::Write(9), Entry(1)),
+        (0, Step::CloseOwn, Behind),
+    ];
+    for (client, step, expected) in steps {
+        assert_eq!(words::step(&mut state, &mut entries, client, step), expected, "{client} {step:?}");
+    }
+    let mut output = [0; 2];
+    assert_eq!(words::read_chain(&state, &entries, &mut output), Ok(2));
+    assert_eq!(output, [7, (1 << 52) + 9]);
+    assert_eq!(state[17..19], [0x00C0000000000000, 0x8000000000000000]);
+}
+
+// 01's marked and plain examples of refusals.
+#[test]
+fn examples() {
+    let (mut state, mut entries) = fresh(3);
+    let mut step = |client, step| words::step(&mut state, &mut entries, client, step);
+    assert_eq!(step(0, Step::Name), Answer::Refused(4));
+    assert_eq!(step(1, Step::Become), Answer::Refused(6));
+    assert_eq!(step(0, Step::Abdicate), Answer::Refused(7));
+    for taken in [Step::Become, Step::Fetch, Step::Create, Step::Append] {
+        assert_eq!(step(0, taken), Answer::Done);
+    }
+    assert_eq!(step(0, Step::CloseOwn), Answer::Refused(14));
+    assert_eq!(step(0, Step::Write(1 << 52)), Answer::Refused(11));
+    assert_eq!(step(0, Step::Write((1 << 52) - 1)), Answer::Entry(0));
+    assert_eq!(words::step(&mut state[..526], &mut entries, 0, Step::Name), Answer::Refused(1));
+    assert_eq!(words::fresh(&mut state, &mut entries, 17), Answer::Refused(17));
+    assert_eq!(words::fresh(&mut state, &mut entries, 16), Answer::Done);
+}
