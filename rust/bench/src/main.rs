@@ -81,6 +81,11 @@ fn writes(log: &Buffers) -> Vec<Candidate<'_>> {
     vec![
         write("library", log, |state, entries| calls::write(state, entries, 0, 7)),
         write("model", log, |state, entries| words::step(state, entries, 0, Step::Write(7))),
+        write("idiomatic check", log, |state, entries| {
+            if checks::idiomatic(state, entries) {
+                checks::trusting_write(state, entries, 0, 7);
+            }
+        }),
         write("append, no check", log, |state, entries| checks::trusting_write(state, entries, 0, 7)),
         check("or over the words", log, checks::limit),
     ]
