@@ -15,7 +15,7 @@ use Rattle.chain.specs.Operations.{Buffers, stepAnswer, afterStep, freshChecks,
 use Rattle.chain.specs.Operations.{readLedgerChecks, readLedgerAnswer, readLedgerPart, readChainAnswer, readChainOutput}
 use Rattle.chain.specs.Laws.Numbers.{NumbersBelow, step-numbers}
 use Rattle.fresh.specs.Fresh.{FreshResult}
-use Rattle.steps.specs.Results.{Result}
+use Rattle.dispatch.specs.Results.{Result}
 use Rattle.readers.specs.Locate.{partStart, Locates}
 
 -- An operation on both buffers: its answer, and every word afterwards.

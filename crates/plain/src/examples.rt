@@ -64,7 +64,7 @@ pub fn fence(
 fn become_on_short(state: &mut [u64], entries: &mut [u64]) -> Answer
     requires { ⌜ 526 ≤ length (now state) ⌝ }
 {
-    dispatch::take_step(&mut state[..526], entries, Step::Become(0))
+    steps::become_leader::become_leader(&mut state[..526], entries, 0)
 }
 
 pub fn short_state(
@@ -96,17 +96,17 @@ pub fn client_counts(
 // A log of one client, which leads and has its first ledger listed.
 fn start_alone(state: &mut [u64; 527], entries: &mut [u64; 4096]) {
     fresh::fresh(state, entries, 1);
-    dispatch::take_step(state, entries, Step::Become(0));
-    dispatch::take_step(state, entries, Step::Fetch(0));
-    dispatch::take_step(state, entries, Step::Create(0));
-    dispatch::take_step(state, entries, Step::Append(0));
+    steps::become_leader::become_leader(state, entries, 0);
+    steps::fetch::fetch(state, entries, 0);
+    steps::create::create(state, entries, 0);
+    steps::append::append(state, entries, 0);
 }
 
 // One entry, the ledger closed, and what the creation of the next ledger answers.
 fn create_next(state: &mut [u64; 527], entries: &mut [u64; 4096]) -> Answer {
-    dispatch::take_step(state, entries, Step::Write(0, 0));
-    dispatch::take_step(state, entries, Step::CloseOwn(0));
-    dispatch::take_step(state, entries, Step::Create(0))
+    steps::write::write(state, entries, 0, 0);
+    steps::close_own::close_own(state, entries, 0);
+    steps::create::create(state, entries, 0)
 }
 
 // The ledgers from 2 to 254, each closed but the last.
@@ -114,7 +114,7 @@ fn create_most(state: &mut [u64; 527], entries: &mut [u64; 4096]) {
     let mut turns: u64 = 0;
     while turns < 253 {
         create_next(state, entries);
-        dispatch::take_step(state, entries, Step::Append(0));
+        steps::append::append(state, entries, 0);
         turns += 1;
     }
 }
@@ -130,7 +130,7 @@ pub fn ledger_limit(
     create_most(state, entries);
     let last = create_next(state, entries);
     let e = crate::text::put_line(text, end, b"create at 255", last);
-    dispatch::take_step(state, entries, Step::Append(0));
+    steps::append::append(state, entries, 0);
     let more = create_next(state, entries);
     crate::text::put_line(text, e, b"create at 256", more)
 }
@@ -139,7 +139,7 @@ pub fn ledger_limit(
 fn write_most(state: &mut [u64; 527], entries: &mut [u64; 4096]) {
     let mut value: u64 = 0;
     while value < 4095 {
-        dispatch::take_step(state, entries, Step::Write(0, value));
+        steps::write::write(state, entries, 0, value);
         value += 1;
     }
 }
@@ -153,9 +153,9 @@ pub fn entry_limit(
 ) -> usize {
     start_alone(state, entries);
     write_most(state, entries);
-    let last = dispatch::take_step(state, entries, Step::Write(0, 4095));
+    let last = steps::write::write(state, entries, 0, 4095);
     let e = crate::text::put_line(text, end, b"last entry", last);
-    let more = dispatch::take_step(state, entries, Step::Write(0, 4096));
+    let more = steps::write::write(state, entries, 0, 4096);
     crate::text::put_line(text, e, b"one entry more", more)
 }
 

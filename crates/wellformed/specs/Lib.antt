@@ -4,3 +4,4 @@ pub mod Lowest
 pub mod PartLaws
 pub mod WordLaws
 pub mod VerdictLaws
+pub mod LogVerdict

@@ -6,16 +6,16 @@ use Rattle.plain.proofs.examples.become_on_short.Statement.{statement}
 use Rattle.plain.proofs.examples.become_on_short.Tie as tie
 use denote.Ref.{now}
 
-slice-relend-prefix-take-step : tie.Need-slice-relend-prefix-take-step
-slice-relend-prefix-take-step c = search needs
+slice-relend-prefix-become-leader : tie.Need-slice-relend-prefix-become-leader
+slice-relend-prefix-become-leader c = search needs
 
-slice-aggregate-take-step : tie.Need-slice-aggregate-take-step
-slice-aggregate-take-step c =
+slice-aggregate-become-leader : tie.Need-slice-aggregate-become-leader
+slice-aggregate-become-leader c =
     let at-entry = c .before .before .before in
     sym (length-take-le 526 (now (at-entry .args .state)) (at-entry .pre))
 
-take-step-requires : tie.Need-take-step-requires
-take-step-requires c κs = search needs
+become-leader-requires : tie.Need-become-leader-requires
+become-leader-requires c κs = search needs
 
 same-length : tie.Need-same-length
 same-length c = search needs
@@ -30,9 +30,9 @@ pub become-on-short-spec : {M : Type 1} → statement M
 become-on-short-spec =
     tie.close
     (tie.spec
-    slice-relend-prefix-take-step
-    slice-aggregate-take-step
-    take-step-requires
+    slice-relend-prefix-become-leader
+    slice-aggregate-become-leader
+    become-leader-requires
     same-length
     same-length-2
     returns)

@@ -16,8 +16,8 @@ loop-holds c = search needs
 create-next-requires : tie.Need-create-next-requires Inv-loop μ-loop
 create-next-requires c κs = search needs
 
-take-step-requires : tie.Need-take-step-requires Inv-loop μ-loop
-take-step-requires c κs = search needs
+append-requires : tie.Need-append-requires Inv-loop μ-loop
+append-requires c κs = search needs
 
 add-turns : tie.Need-add-turns Inv-loop μ-loop
 add-turns c = search needs
@@ -39,7 +39,7 @@ create-most-spec =
     μ-loop
     loop-holds
     create-next-requires
-    take-step-requires
+    append-requires
     add-turns
     loop-less
     loop-again

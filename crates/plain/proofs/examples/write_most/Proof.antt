@@ -13,8 +13,8 @@ abbrev μ-loop : tie.MeasureT-loop
 loop-holds : tie.Need-loop-holds Inv-loop μ-loop
 loop-holds c = search needs
 
-take-step-requires : tie.Need-take-step-requires Inv-loop μ-loop
-take-step-requires c κs = search needs
+write-requires : tie.Need-write-requires Inv-loop μ-loop
+write-requires c κs = search needs
 
 add-value : tie.Need-add-value Inv-loop μ-loop
 add-value c = search needs
@@ -31,4 +31,4 @@ returns c = search needs
 pub write-most-spec : {M : Type 1} → statement M
 write-most-spec =
     tie.close
-    (tie.spec Inv-loop μ-loop loop-holds take-step-requires add-value loop-less loop-again returns)
+    (tie.spec Inv-loop μ-loop loop-holds write-requires add-value loop-less loop-again returns)
