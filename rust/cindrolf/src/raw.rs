@@ -13,67 +13,35 @@ pub struct ChainCount {
     pub count: u64,
 }
 
+// Operations that change both buffers, each with the numbers that it takes.
+macro_rules! operations {
+    ($($name:ident($($number:ident),*);)*) => {
+        unsafe extern "C" {
+            $(pub fn $name(
+                state: *mut u64,
+                state_len: usize,
+                entries: *mut u64,
+                entries_len: usize,
+                $($number: u64,)*
+            ) -> u64;)*
+        }
+    };
+}
+
+operations! {
+    cindrolf_fresh(clients);
+    cindrolf_name(client);
+    cindrolf_become(client);
+    cindrolf_abdicate(client);
+    cindrolf_fetch(client);
+    cindrolf_close_last(client);
+    cindrolf_create(client);
+    cindrolf_append(client);
+    cindrolf_write(client, value);
+    cindrolf_close_own(client);
+}
+
 unsafe extern "C" {
-    pub fn cindrolf_fresh(
-        state: *mut u64,
-        state_len: usize,
-        entries: *mut u64,
-        entries_len: usize,
-        clients: u64,
-    ) -> u64;
-    pub fn cindrolf_name(state: *mut u64, state_len: usize, entries: *mut u64, entries_len: usize, client: u64) -> u64;
-    pub fn cindrolf_become(
-        state: *mut u64,
-        state_len: usize,
-        entries: *mut u64,
-        entries_len: usize,
-        client: u64,
-    ) -> u64;
-    pub fn cindrolf_abdicate(
-        state: *mut u64,
-        state_len: usize,
-        entries: *mut u64,
-        entries_len: usize,
-        client: u64,
-    ) -> u64;
-    pub fn cindrolf_fetch(state: *mut u64, state_len: usize, entries: *mut u64, entries_len: usize, client: u64)
-    -> u64;
-    pub fn cindrolf_close_last(
-        state: *mut u64,
-        state_len: usize,
-        entries: *mut u64,
-        entries_len: usize,
-        client: u64,
-    ) -> u64;
-    pub fn cindrolf_create(
-        state: *mut u64,
-        state_len: usize,
-        entries: *mut u64,
-        entries_len: usize,
-        client: u64,
-    ) -> u64;
-    pub fn cindrolf_append(
-        state: *mut u64,
-        state_len: usize,
-        entries: *mut u64,
-        entries_len: usize,
-        client: u64,
-    ) -> u64;
-    pub fn cindrolf_write(
-        state: *mut u64,
-        state_len: usize,
-        entries: *mut u64,
-        entries_len: usize,
-        client: u64,
-        value: u64,
-    ) -> u64;
-    pub fn cindrolf_close_own(
-        state: *mut u64,
-        state_len: usize,
-        entries: *mut u64,
-        entries_len: usize,
-        client: u64,
-    ) -> u64;
     pub fn cindrolf_well_formed(state: *const u64, state_len: usize, entries: *const u64, entries_len: usize) -> bool;
     pub fn cindrolf_read_ledger(
         state: *const u64,
