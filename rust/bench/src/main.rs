@@ -5,6 +5,7 @@ mod measure;
 mod plot;
 
 use cindrolf::calls;
+use compare::arguments;
 use compare::call::Buffers;
 use compare::logs::chain;
 use measure::{Candidate, Times, interleaved};
@@ -191,17 +192,9 @@ fn draw(path: &Path, rounds: usize) -> std::io::Result<()> {
 }
 
 fn main() -> ExitCode {
-    let args: Vec<String> = std::env::args().skip(1).collect();
-    if args.iter().any(|arg| arg == "--help") {
-        println!("{HELP}");
-        return ExitCode::SUCCESS;
-    }
-    let options = match options(args.into_iter()) {
+    let options = match arguments::options("bench", HELP, options) {
         Ok(options) => options,
-        Err(text) => {
-            eprintln!("bench: {text}");
-            return ExitCode::from(2);
-        }
+        Err(status) => return status,
     };
     tables(options.rounds);
     match options.plot.map(|path| draw(&path, options.rounds.div_ceil(3))) {

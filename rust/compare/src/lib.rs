@@ -2,6 +2,7 @@
 
 #![deny(missing_docs)]
 
+pub mod arguments;
 pub mod buffers;
 pub mod call;
 pub mod histories;

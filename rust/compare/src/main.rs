@@ -1,7 +1,7 @@
 //! Compares the proved library with the model. See `--help`.
 
 use compare::sides::Sides;
-use compare::{buffers, call, histories, logs, sweep};
+use compare::{arguments, buffers, call, histories, logs, sweep};
 use model::random::Random;
 use std::process::ExitCode;
 use std::time::{Duration, Instant};
@@ -23,7 +23,7 @@ struct Options {
     sweep: bool,
 }
 
-/// The options, or what to print instead of a run.
+/// The options, or what is wrong with them.
 fn options(mut args: impl Iterator<Item = String>) -> Result<Options, String> {
     let mut options = Options { seed: 1, calls: 1_000_000, sweep: true };
     while let Some(arg) = args.next() {
@@ -85,17 +85,9 @@ fn run(options: &Options, sides: &mut Sides) -> Result<(), String> {
 }
 
 fn main() -> ExitCode {
-    let args: Vec<String> = std::env::args().skip(1).collect();
-    if args.iter().any(|arg| arg == "--help") {
-        println!("{HELP}");
-        return ExitCode::SUCCESS;
-    }
-    let options = match options(args.into_iter()) {
+    let options = match arguments::options("compare", HELP, options) {
         Ok(options) => options,
-        Err(text) => {
-            eprintln!("compare: {text}");
-            return ExitCode::from(2);
-        }
+        Err(status) => return status,
     };
     println!("compare: seed {}, {} random calls", options.seed, options.calls);
     let mut sides = Sides::new(call::library);
