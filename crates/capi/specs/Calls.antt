@@ -8,14 +8,12 @@ use Rattle.chain.specs.declared.answer.Refusal.{Refusal}
 use Rattle.chain.specs.declared.answer.Answer.{Answer}
 use Rattle.chain.specs.declared.answer.Answer.the-variants.{Done, Refused}
 use Rattle.chain.specs.declared.answer.ChainAnswer.{ChainAnswer}
-use Rattle.chain.specs.declared.answer.ChainAnswer.the-variants as chain
-use Rattle.chain.specs.Answers.{answerNumber}
+use Rattle.chain.specs.Answers.{answerNumber, chainNumber, chainCount}
 use Rattle.chain.specs.Steps.{Step}
-use Rattle.chain.specs.Operations.{Buffers, stepAnswer, afterStep, freshChecks, freshAnswer, afterFresh}
+use Rattle.chain.specs.Operations.{Buffers, stepAnswer, afterStep, Result, freshChecks, freshAnswer, afterFresh}
 use Rattle.chain.specs.Operations.{readLedgerChecks, readLedgerAnswer, readLedgerPart, readChainAnswer, readChainOutput}
 use Rattle.chain.specs.Laws.Numbers.{NumbersBelow, step-numbers}
 use Rattle.fresh.specs.Fresh.{FreshResult}
-use Rattle.dispatch.specs.Results.{Result}
 use Rattle.readers.specs.Locate.{partStart, Locates}
 
 -- An operation on both buffers: its answer, and every word afterwards.
@@ -38,14 +36,6 @@ pub record LedgerCall (l : ℕ) (b : Buffers) (answer start count : ℕ) : Type 
   pub words : take count (drop start (b .entries)) ≡ readLedgerPart l b
 
 -- Read chain: its answer and its count as two numbers, and every word of the output buffer afterwards.
-abbrev pub chainNumber : ChainAnswer → ℕ
-chainNumber (chain.Count n) = answerNumber Done
-chainNumber (chain.Refused r) = answerNumber (Refused r)
-
-abbrev pub chainCount : ChainAnswer → ℕ
-chainCount (chain.Count n) = n
-chainCount (chain.Refused r) = 0
-
 pub record ChainCall (b : Buffers) (output : List ℕ) (answer count : ℕ) (after : List ℕ) : Type 0 where
   pub answers : answer ≡ chainNumber (readChainAnswer b output)
   pub counts : count ≡ chainCount (readChainAnswer b output)

@@ -1,9 +1,11 @@
 // The two readers. No slice can be handed back, so read ledger says where in the caller's entry buffer its part lies.
 use chain::answer::Answer;
 use chain::answer::ChainAnswer;
+use records::numbers::LedgerNumber;
 ghost use mathlib.Core.Path.{_≡_};
 ghost use Rattle.chain.specs.Operations.{buffers};
-ghost use Rattle.capi.specs.Calls.{LedgerCall, ChainCall, chainNumber, chainCount};
+ghost use Rattle.capi.specs.Calls.{LedgerCall, ChainCall};
+ghost use Rattle.chain.specs.Answers.{chainNumber, chainCount};
 
 // Read ledger's answer, and its part: the index of the first word and the number of words, both 0 where it is empty.
 #[repr(C)]
@@ -40,11 +42,11 @@ fn chain_count(a: ChainAnswer) -> ChainCount
 pub extern "C" fn cindrolf_read_ledger(state: &[u64], entries: &[u64], ledger: u64) -> LedgerPart
     ensures { λ r. ⌜ LedgerCall ledger (buffers (now (state .entry)) (now (entries .entry))) (r .answer) (r .start) (r .count) ⌝ }
 {
-    let found = readers::locate::locate(state, entries, ledger);
+    let found = readers::locate::locate(state, entries, LedgerNumber(ledger));
     let a = found.answer;
     LedgerPart {
         answer: crate::number::answer_number(a),
-        start: found.start,
+        start: found.start.0,
         count: found.count,
     }
 }

@@ -2,7 +2,7 @@
 use dispatch::Step;
 ghost use Rattle.chain.specs.Operations.{buffers};
 ghost use Rattle.chain.specs.Steps as kinds;
-ghost use Rattle.lookup.specs.Decision.{by};
+ghost use Rattle.chain.specs.Steps.{by};
 ghost use Rattle.dispatch.specs.Dispatch.{stepOf};
 ghost use Rattle.capi.specs.Calls.{StepCall};
 

@@ -1,6 +1,6 @@
 -- Checks in their order, each with the refusal that it gives: the first whose condition holds decides.
-use mathlib.Core.Path.{_≡_, refl, subst}
-use mathlib.Core.Bool.{Bool, true, false, cond}
+use mathlib.Core.Path.{_≡_, refl, ap, subst, _∙_}
+use mathlib.Core.Bool.{Bool, true, false, not, cond}
 use mathlib.Core.List.{List, [], _∷_}
 use Rattle.checks.specs.Test.{Test, test, Holds, Fails}
 use Rattle.checks.specs.TestLaws.{by-bool, split, false-fails, fails-false}
@@ -14,9 +14,13 @@ abbrev pub first : {R A : Type 0} → List (Check R) → (R → A) → A → A
 first [] refuse otherwise = otherwise
 first ((r when t) ∷ cs) refuse otherwise = cond (test t) (refuse r) (first cs refuse otherwise)
 
+-- Something of every check.
+abbrev pub Each : {R : Type 0} → (R → Test → Type 0) → List (Check R) → Type 0
+Each P [] = Unit {0}
+Each P ((r when t) ∷ cs) = P r t × Each P cs
+
 abbrev pub Passed : {R : Type 0} → List (Check R) → Type 0
-Passed [] = Unit {0}
-Passed ((r when t) ∷ cs) = Fails t × Passed cs
+Passed cs = Each (λ _ t. Fails t) cs
 
 -- Either a check refuses, or all are passed.
 pub data Outcome {R A : Type 0} (cs : List (Check R)) (refuse : R → A) (otherwise : A) (out : A) : Type 0 where
@@ -52,33 +56,58 @@ pub passed-first : {R A : Type 0} (cs : List (Check R)) (refuse : R → A) (a : 
 passed-first [] refuse a p = refl
 passed-first ((r when t) ∷ cs) refuse a p = rw (fails-false t (p .0)) (passed-first cs refuse a (p .1))
 
--- What has to be shown for no refusal of a kind to be given: that the condition of each such check fails where those before it did.
-abbrev pub asked : Bool → Type 0 → Type 0
-asked true X = X
-asked false X = Unit {0}
+-- The checks that give some of the refusals, the others, and those before the first of them, each in their order. Proofs take a check by its
+-- refusal and not by its place, so that another check can be added, moved or dropped.
+abbrev pub select : {R : Type 0} → (R → Bool) → List (Check R) → List (Check R)
+select kind [] = []
+select kind ((r when t) ∷ cs) = cond (kind r) ((r when t) ∷ select kind cs) (select kind cs)
 
-abbrev pub Never : {R : Type 0} → (R → Bool) → List (Check R) → Type 0
-Never kind [] = Unit {0}
-Never kind ((r when t) ∷ cs) = asked (kind r) (Holds t → ⊥) × (Fails t → Never kind cs)
+abbrev pub others : {R : Type 0} → (R → Bool) → List (Check R) → List (Check R)
+others kind cs = select (λ r. not (kind r)) cs
 
-pub never : {R A : Type 0} (kind : R → Bool) (cs : List (Check R)) (refuse : R → A) (a : A) (r : R)
-    → ((q : R) → refuse q ≡ refuse r → q ≡ r) → (a ≡ refuse r → ⊥)
-    → Never kind cs → kind r ≡ true → first cs refuse a ≡ refuse r → ⊥
-never kind [] refuse a r inj n o w = n
-never {R} {A} kind ((q when t) ∷ cs) refuse a r inj n o w = split (λ (x : A). x ≡ refuse r → ⊥) t (λ y e. at q (inj q e) (o .0) y)
-    (λ y. never kind cs refuse a r inj n (o .1 y) w)
+abbrev pub before : {R : Type 0} → (R → Bool) → List (Check R) → List (Check R)
+before kind [] = []
+before kind ((r when t) ∷ cs) = cond (kind r) [] ((r when t) ∷ before kind cs)
+
+pub each-selected : {R : Type 0} (P : R → Test → Type 0) (kind : R → Bool) (cs : List (Check R)) → Each P cs → Each P (select kind cs)
+each-selected P kind [] p = tt
+each-selected P kind ((r when t) ∷ cs) p = by-bool (kind r) (λ h. rw h (p .0, each-selected P kind cs (p .1)))
+    (λ h. rw h (each-selected P kind cs (p .1)))
+
+each-joined : {R : Type 0} (P : R → Test → Type 0) (kind : R → Bool) (cs : List (Check R)) → Each P (select kind cs)
+    → Each P (others kind cs) → Each P cs
+each-joined P kind [] a b = tt
+each-joined P kind ((r when t) ∷ cs) a b = by-bool (kind r)
+    (λ h. let x : P r t × Each P (select kind cs) = rw h at a in (x .0, each-joined P kind cs (x .1) (rw h at b)))
+    (λ h. let y : P r t × Each P (others kind cs) = rw h at b in (y .0, each-joined P kind cs (rw h at a) (y .1)))
+
+-- Something of every check, told refusal by refusal in any order.
+pub data Reasons {R : Type 0} (P : R → Test → Type 0) : List (Check R) → Type 0 where
+  no-more : Reasons P []
+  because : (kind : R → Bool) {cs : List (Check R)} → Each P (select kind cs) → Reasons P (others kind cs) → Reasons P cs
+
+pub reasons : {R : Type 0} {P : R → Test → Type 0} {cs : List (Check R)} → Reasons P cs → Each P cs
+reasons no-more = tt
+reasons {R} {P} {cs} (because kind a rest) = each-joined P kind cs a (reasons rest)
+
+-- A refusal is given on a condition of its own: what each of these conditions gives holds of it.
+pub given : {R A : Type 0} (P : R → Type 0) (kind : R → Bool) (cs : List (Check R)) (refuse : R → A) (a : A) (r : R)
+    → ((q : R) → refuse q ≡ refuse r → q ≡ r) → (a ≡ refuse r → ⊥) → Each (λ q t. Holds t → P q) (select kind cs) → kind r ≡ true
+    → first cs refuse a ≡ refuse r → P r
+given P kind [] refuse a r inj n o w = λ e. absurd (n e)
+given {R} {A} P kind ((q when t) ∷ cs) refuse a r inj n o w = split (λ (x : A). x ≡ refuse r → P r) t (λ y e. here y (inj q e))
+    (λ _. given P kind cs refuse a r inj n rest w)
   where
-    at : (q : R) → q ≡ r → asked (kind q) (Holds t → ⊥) → Holds t → ⊥
-    at q e g y = (rw (e, w) at g) y
+    here : Holds t → q ≡ r → P r
+    here y e = let k : kind q ≡ true = ap kind e ∙ w in subst P e ((rw k at o) .0 y)
 
--- What the condition of each check gives holds of the refusal that is given.
-abbrev pub Gives : {R : Type 0} → (R → Type 0) → List (Check R) → Type 0
-Gives P [] = Unit {0}
-Gives P ((r when t) ∷ cs) = (Holds t → P r) × Gives P cs
+    rest : Each (λ q t. Holds t → P q) (select kind cs)
+    rest = by-bool (kind q) (λ h. (rw h at o) .1) (λ h. rw h at o)
 
-pub given : {R A : Type 0} (P : R → Type 0) (cs : List (Check R)) (refuse : R → A) (a : A) (r : R) → ((q : R) → refuse q ≡ refuse r → q ≡ r)
-    → (a ≡ refuse r → ⊥)
-    → Gives P cs → first cs refuse a ≡ refuse r → P r
-given P [] refuse a r inj n o = λ e. absurd (n e)
-given {R} {A} P ((q when t) ∷ cs) refuse a r inj n o = split (λ (x : A). x ≡ refuse r → P r) t (λ y e. subst P (inj q e) (o .0 y))
-    (λ y. given P cs refuse a r inj n (o .1))
+-- And where those before it were passed.
+pub passed-before : {R A : Type 0} (kind : R → Bool) (cs : List (Check R)) (refuse : R → A) (a : A) (r : R)
+    → ((q : R) → refuse q ≡ refuse r → q ≡ r) → kind r ≡ true → first cs refuse a ≡ refuse r → Passed (before kind cs)
+passed-before kind [] refuse a r inj w = λ _. tt
+passed-before {R} {A} kind ((q when t) ∷ cs) refuse a r inj w = split (λ (x : A). x ≡ refuse r → Passed (before kind ((q when t) ∷ cs))) t
+    (λ _ e. let k : kind q ≡ true = ap kind (inj q e) ∙ w in rw k tt)
+    (λ y e. by-bool (kind q) (λ h. rw h tt) (λ h. rw h (y, passed-before kind cs refuse a r inj w e)))

@@ -1,8 +1,9 @@
 -- Tests of numbers as data: what a test computes, and what it says.
 use Prim.Native.Nat.{ℕ, suc, _<_, _≤_}
 use mathlib.Core.Path.{_≡_}
-use mathlib.Core.Bool.{Bool, true, false, not, cond, _&&_}
+use mathlib.Core.Bool.{Bool, true, false, not, cond, _&&_, _||_}
 use mathlib.Core.List.{List, [], _∷_}
+use mathlib.Core.Logic.{_⊎_}
 use lib.ListN.{length, getD}
 use lib.Dec.{ltb, leb, eqb}
 use Rattle.fields.specs.Bit.{bit}
@@ -11,7 +12,7 @@ use Rattle.fields.specs.Bit.{bit}
 pub data Test : Type 0 where
   flag : Bool → Test
   same differ less most : ℕ → ℕ → Test
-  both implies : Test → Test → Test
+  both either implies : Test → Test → Test
   lacks : Test → Test
   every : (ℕ → ℕ → ℕ → Test) → List ℕ → Test
 
@@ -27,6 +28,7 @@ test (differ a b) = not (eqb a b)
 test (less a b) = ltb a b
 test (most a b) = leb a b
 test (both t u) = test t && test u
+test (either t u) = test t || test u
 test (implies t u) = cond (test t) (test u) true
 test (lacks t) = not (test t)
 test (every f ws) = everyFrom (λ i before w. test (f i before w)) 0 0 ws
@@ -45,6 +47,8 @@ Says (most a b) true = a ≤ b
 Says (most a b) false = b < a
 Says (both t u) true = Says t true × Says u true
 Says (both t u) false = Says t true → Says u false
+Says (either t u) true = Says t true ⊎ Says u true
+Says (either t u) false = Says t false × Says u false
 Says (implies t u) true = Says t true → Says u true
 Says (implies t u) false = Says t true × Says u false
 Says (lacks t) true = Says t false

@@ -4,11 +4,12 @@ use native.Mathlib.Omega.{arith}
 use mathlib.Core.Path.{_≡_, refl, sym, ap, _∙_}
 use mathlib.Core.Bool.{Bool, true, false, cond, false≢true}
 use mathlib.Core.List.{List, [], _∷_}
+use mathlib.Core.Logic.{inl, inr, ⊎-elim}
 use lib.ListN.{length, getD}
 use lib.Dec.{ltb, leb, eqb}
 use borrow.Author.Tests.{eqb-true, eqb-false, leb-true, leb-false, ltb-true, ltb-false}
 use Rattle.fields.specs.Bit.{bit}
-use Rattle.checks.specs.Test.{Test, flag, same, differ, less, most, both, implies, lacks, every, everyFrom, test, Holds, Fails}
+use Rattle.checks.specs.Test.{Test, flag, same, differ, less, most, both, either, implies, lacks, every, everyFrom, test, Holds, Fails}
 
 pub by-bool {ℓ} : {P : Type ℓ} (b : Bool) → (b ≡ true → P) → (b ≡ false → P) → P
 by-bool true f g = f refl
@@ -26,6 +27,7 @@ clash (differ a b) h f = h f
 clash (less a b) h f = omega arith
 clash (most a b) h f = omega arith
 clash (both t u) h f = clash u (h .1) (f (h .0))
+clash (either t u) h f = ⊎-elim (λ k. clash t k (f .0)) (λ k. clash u k (f .1)) h
 clash (implies t u) h f = clash u (h (f .0)) (f .1)
 clash (lacks t) h f = clash t f h
 clash (every f ws) h g = g h
@@ -70,6 +72,12 @@ decided (both t u) = two (decided t) (decided u)
     two (holds e h) (holds q k) = holds (rw (e, q)) (h, k)
     two (holds e h) (fails q k) = fails (rw (e, q)) (λ _. k)
     two (fails e h) _ = fails (rw e) (λ k. absurd (clash t k h))
+decided (either t u) = two (decided t) (decided u)
+  where
+    two : Decided t → Decided u → Decided (either t u)
+    two (holds e h) _ = holds (rw e) (inl h)
+    two (fails e h) (holds q k) = holds (rw (e, q)) (inr k)
+    two (fails e h) (fails q k) = fails (rw (e, q)) (h, k)
 decided (implies t u) = two (decided t) (decided u)
   where
     two : Decided t → Decided u → Decided (implies t u)

@@ -8,7 +8,7 @@ use Rattle.checks.specs.Test.{everyFrom}
 use Rattle.records.specs.Words.{packHead, packClient, packLedger, packPlace, packEntry, unpackHead, unpackClient, unpackLedger, unpackPlace, unpackEntry}
 use Rattle.chain.specs.Log.{put, place, ofLedger, alongList, newestFrom}
 use Rattle.chain.specs.Buffers.{head, clientsIn, ledgersIn, listIn, entriesIn}
-use Rattle.chain.specs.Operations.{chainReading, freshBuffers, afterStep, stepAnswer, stepEffect}
+use Rattle.chain.specs.Operations.{cleared, chainReading, freshBuffers, afterStep, stepAnswer, stepEffect}
 use Rattle.grammar.specs.Grammar.{parseLine, parseWrite, letterStep, withClient}
 use Rattle.replies.specs.Replies.{replyLine, entryText, entriesText, chainLine}
 use Rattle.session.specs.Transcript.{transcript, startedBy, started, clientCount, session, requestOf}
@@ -32,5 +32,5 @@ one-more-byte = refl
 
 of-document-01 : transcript (bytes "3\nB 0\nF 0\nC 0\nP 0\nW 0 7\nN 1\nB 1\nF 1\nL 1\nW 0 8\nC 1\nP 1\nW 1 9\nO 0\n")
     ≡ bytes "1 ok\n2 ok\n3 ok\n4 ok\n5 entry 0\n6 ok\n7 ok\n8 ok\n9 ok\n10 ref 12\n11 ok\n12 ok\n13 entry 1\n14 behind\nchain 0:7 1:9\n"
-unfolding transcript startedBy lines longer started clientCount session requestOf indexOf parseLine parseWrite letterStep withClient numeralOf starts allDigits isDigit value decimal digits replyLine entryText entriesText chainLine chainReading freshBuffers afterStep stepAnswer stepEffect everyFrom packHead packClient packLedger packPlace packEntry unpackHead unpackClient unpackLedger unpackPlace unpackEntry put place ofLedger alongList newestFrom head clientsIn ledgersIn listIn entriesIn
+unfolding transcript startedBy lines longer started clientCount session requestOf indexOf parseLine parseWrite letterStep withClient numeralOf starts allDigits isDigit value decimal digits replyLine entryText entriesText chainLine cleared chainReading freshBuffers afterStep stepAnswer stepEffect everyFrom packHead packClient packLedger packPlace packEntry unpackHead unpackClient unpackLedger unpackPlace unpackEntry put place ofLedger alongList newestFrom head clientsIn ledgersIn listIn entriesIn
 of-document-01 = refl

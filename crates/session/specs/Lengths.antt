@@ -1,35 +1,28 @@
 -- No transcript is longer than the limit.
 use Prim.Native.Nat.{ℕ, zero, suc, _+_, _-_, _*_, _/_, _%_, _^_, _<_, _≤_}
 use native.Mathlib.Omega.{arith}
-use mathlib.Core.Path.{_≡_, refl, sym, ap, subst, _∙_}
+use mathlib.Core.Path.{_≡_, refl, ap, subst, _∙_}
 use mathlib.Core.List.{List, [], _∷_, _++_, map}
-use lib.ListN.{length, replicate, length-append, length-map, length-replicate}
-use lib.Dec.{leb, ltb}
-use borrow.Author.Tests.{leb-true, ltb-false}
+use lib.ListN.{length, length-append, length-map, length-replicate}
+use lib.Dec.{ltb}
+use borrow.Author.Tests.{ltb-false}
 use Rattle.text.specs.Bytes.{bytes}
-use Rattle.text.specs.Decimal.{decimal, numeralOf}
+use Rattle.text.specs.Decimal.{decimal}
 use Rattle.text.specs.DecimalLaws.{decimal-length}
-use Rattle.text.specs.declared.decimal.Numeral.{Numeral}
-use Rattle.text.specs.declared.decimal.Numeral.the-variants.{Number, NotNumeral}
-use Rattle.checks.specs.Test.{Holds}
 use Rattle.checks.specs.TestLaws.{by-bool}
-use Rattle.checks.specs.Checks.{passed-first}
 use Rattle.records.specs.Layout.{clientLimit}
-use Rattle.records.specs.Words.{packClient}
 use Rattle.chain.specs.declared.answer.Answer.{Answer}
 use Rattle.chain.specs.declared.answer.Answer.the-variants.{Done, WasClosed, Behind, Written, Refused}
 use Rattle.chain.specs.Answers.{refusalNumber}
 use Rattle.chain.specs.Log.{alongList}
 use Rattle.chain.specs.Steps.{Step}
-use Rattle.chain.specs.Buffers.{noClient}
-use Rattle.chain.specs.Operations.{Buffers, held, rightLengths, stepAnswer, afterSteps, freshChecks, freshBuffers, afterFresh, wordLedger, usedWords, chainReading}
+use Rattle.chain.specs.Operations.{Buffers, held, stepAnswer, afterSteps, freshBuffers, afterFresh, wordLedger, usedWords, cleared, chainReading}
 use Rattle.chain.specs.Journal.{chainWord}
-use Rattle.chain.specs.Promises.{told, ShowsHistory}
+use Rattle.chain.specs.Promises.{after, told, ShowsHistory}
 use Rattle.chain.specs.Laws.Numbers.{NumbersBelow, step-numbers, refusal-small}
 use Rattle.chain.specs.Laws.Fresh.{fresh-formed}
-use Rattle.chain.specs.Laws.Runs.{Good, steps-good}
+use Rattle.chain.specs.Laws.Runs.{Good, steps-capacity, steps-good}
 use Rattle.chain.specs.Laws.Readings.{read-all}
-use Rattle.chain.specs.Theorems.{fresh-is-done, whole-history}
 use Rattle.dispatch.specs.Dispatch.{stepOf}
 use Rattle.grammar.specs.declared.Request.{Request}
 use Rattle.grammar.specs.declared.Request.the-variants.{Take, BadLine}
@@ -37,7 +30,10 @@ use Rattle.replies.specs.Replies.{answerText, replyText, replyLine, entryText, 
 use Rattle.session.specs.Lines.{Line, lines}
 use Rattle.session.specs.LineLaws.{few-lines}
 use Rattle.session.specs.Parts.{request-steps, Reads}
-use Rattle.session.specs.Transcript.{inputLimit, textLimit, requestOf, replyTo, afterRequest, taken, session, countOf, clientCount, started, startedBy, transcript}
+use Rattle.session.specs.Transcript.{inputLimit, textLimit, sessionCapacity, requestOf, replyTo, afterRequest, taken, session, clientCount, started, startedBy, transcript}
+use Rattle.session.specs.SessionPromise.{blank}
+use Rattle.session.specs.FirstLine.{few-clients}
+use Rattle.session.specs.Begins.{left-by-fresh, history}
 
 answer-length : (a : Answer) → NumbersBelow a → length (answerText a) ≤ 10
 answer-length Done h = omega arith
@@ -75,14 +71,14 @@ entry-length word h = omega (
   length-append (decimal (word / 2 ^ 52)) (bytes ":" ++ decimal (word % 2 ^ 52)),
 )
 
-entries-length : (words : List ℕ) → length (entriesText (map (λ w. w % 2 ^ 56) words)) ≤ 20 * length words
-unfolding entriesText
+entries-length : (words : List ℕ) → length (entriesText (map cleared words)) ≤ 20 * length words
+unfolding entriesText cleared
 entries-length [] = omega arith
 entries-length (w ∷ words) = omega (
   arith,
-  entry-length (w % 2 ^ 56) (omega arith),
+  entry-length (cleared w) (omega arith),
   entries-length words,
-  length-append (entryText (w % 2 ^ 56)) (entriesText (map (λ v. v % 2 ^ 56) words)),
+  length-append (entryText (cleared w)) (entriesText (map cleared words)),
 )
 
 chain-length : (b : Buffers) → length (chainLine (chainReading b)) ≤ 20 * length (chainReading b) + 6
@@ -90,8 +86,8 @@ unfolding chainLine chainReading
 chain-length b = let words : List ℕ = alongList wordLedger (held b .list) (usedWords b) in omega (
   arith,
   entries-length words,
-  length-map words (λ w. w % 2 ^ 56),
-  length-append (entriesText (map (λ w. w % 2 ^ 56) words)) (bytes "\n"),
+  length-map words cleared,
+  length-append (entriesText (map cleared words)) (bytes "\n"),
 )
 
 -- A session: its lines, and the chain of the log that they lead to.
@@ -116,58 +112,38 @@ session-length (l ∷ ls) number b h =
 -- A log that a session leads to.
 module _ (n : ℕ) (some : 1 ≤ n) (few : n ≤ clientLimit) (xs : List Step) where
   abbrev b₀ : Buffers
-  b₀ = freshBuffers 4096 n
+  b₀ = freshBuffers sessionCapacity n
 
-  right : Holds (rightLengths b₀)
+  capacity : length (after n blank xs .entries) ≡ sessionCapacity
   unfolding freshBuffers
-  right =
+  capacity =
       let none : ℕ = 0 in
-      let word : ℕ = packClient noClient in (
-        omega (arith, length-append (replicate n word) (replicate (526 - n) none), length-replicate n word, length-replicate (526 - n) none),
-        length-replicate 4096 none,
-      )
+      steps-capacity xs (afterFresh n blank)
+      ∙ ap (λ (b : Buffers). length (b .entries)) (left-by-fresh n some few)
+      ∙ length-replicate sessionCapacity none
 
   good : Good (afterSteps xs b₀)
-  good = steps-good xs b₀ (fresh-formed 4096 n some few refl)
+  good = steps-good xs b₀ (fresh-formed sessionCapacity n some few refl)
 
-  begun : afterFresh n b₀ ≡ b₀
-  unfolding afterFresh
-  begun = passed-first (freshChecks n b₀) (λ _. b₀) (freshBuffers (length (b₀ .entries)) n) (right, ((λ e. omega arith), (few, tt)))
-      ∙ ap (λ (k : ℕ). freshBuffers k n) (right .1)
-
-  pub reading-length : length (chainReading (afterSteps xs b₀)) ≤ 4096
+  pub reading-length : length (chainReading (afterSteps xs b₀)) ≤ sessionCapacity
   reading-length =
-      let s : ShowsHistory (afterSteps xs (afterFresh n b₀)) (told n b₀ xs) = whole-history .shows n b₀ (fresh-is-done .done n b₀ some few right) xs in
-      subst (λ (d : Buffers). length (chainReading (afterSteps xs d)) ≤ 4096) begun
-      (omega (
-        arith,
-        s .few,
-        ap (length {A = ℕ}) (s .reading),
-        length-map (told n b₀ xs .accepted) chainWord,
-        subst (λ (d : Buffers). length (afterSteps xs d .entries) ≡ 4096) (sym begun) (good .capacity),
-      ))
+      let s : ShowsHistory (after n blank xs) (told n blank xs) = history n some few xs in
+      subst (λ (d : Buffers). length (chainReading (afterSteps xs d)) ≤ sessionCapacity) (left-by-fresh n some few)
+      (omega (arith, capacity, s .few, ap (length {A = ℕ}) (s .reading), length-map (told n blank xs .accepted) chainWord))
 
-  pub reads : (out : List ℕ) → 4096 ≤ length out → Reads (afterSteps xs b₀) out
+  pub reads : (out : List ℕ) → sessionCapacity ≤ length out → Reads (afterSteps xs b₀) out
   reads out h =
       let l : length (chainReading (afterSteps xs b₀)) ≤ length out = omega (arith, reading-length) in
       let r = read-all (afterSteps xs b₀) good out l in
       record { answers = r .0; output = r .1; fits = l }
-
-count-few : (m : Numeral) → countOf m ≤ clientLimit
-count-few (Number n) = by-bool (leb n 16) (λ t. rw t (leb-true n 16 t)) (λ t. rw t (omega arith))
-count-few NotNumeral = omega arith
-
-pub few-clients : (l : Line) → clientCount l ≤ clientLimit
-unfolding clientCount
-few-clients l = by-bool (l .ended) (λ t. rw t (count-few (numeralOf (l .content)))) (λ t. rw t (omega arith))
 
 started-length : (n : ℕ) (ls : List Line) → n ≤ clientLimit → length ls ≤ inputLimit → length (started n ls) ≤ textLimit
 unfolding started
 started-length zero ls few h = omega arith
 started-length (suc n) ls few h = omega (
   arith,
-  session-length ls 1 (freshBuffers 4096 (suc n)) (omega arith),
-  chain-length (afterSteps (taken ls) (freshBuffers 4096 (suc n))),
+  session-length ls 1 (freshBuffers sessionCapacity (suc n)) (omega arith),
+  chain-length (afterSteps (taken ls) (freshBuffers sessionCapacity (suc n))),
   reading-length (suc n) (omega arith) few (taken ls),
 )
 

@@ -14,8 +14,7 @@ use Rattle.chain.specs.declared.answer.Refusal.{Refusal}
 use Rattle.chain.specs.declared.answer.ChainAnswer.{ChainAnswer}
 use Rattle.chain.specs.declared.answer.ChainAnswer.the-variants.{Count, Refused}
 use Rattle.chain.specs.Steps.{Step}
-use Rattle.chain.specs.Operations.{Buffers, buffers, afterSteps, chainReading, readChainAnswer, readChainOutput}
-use Rattle.dispatch.specs.Results.{Result}
+use Rattle.chain.specs.Operations.{Buffers, buffers, Result, afterSteps, chainReading, readChainAnswer, readChainOutput}
 use Rattle.dispatch.specs.declared.Step as code
 use Rattle.dispatch.specs.Dispatch.{stepOf}
 use Rattle.grammar.specs.declared.Request.{Request}

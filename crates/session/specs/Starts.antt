@@ -20,32 +20,33 @@ use Rattle.replies.specs.Replies.{chainLine}
 use Rattle.session.specs.declared.Printed.the-variants.{Bytes, TextTooShort}
 use Rattle.session.specs.Lines.{Line, line, lines}
 use Rattle.session.specs.LineLaws.{next-line}
-use Rattle.session.specs.Transcript.{textLimit, taken, session, clientCount, started, startedBy, transcript, transcriptAnswer, transcriptText}
+use Rattle.session.specs.Transcript.{textLimit, sessionCapacity, taken, session, clientCount, started, startedBy, transcript, transcriptAnswer, transcriptText}
 use Rattle.session.specs.Parts.{Ran, Reads}
-use Rattle.session.specs.Lengths.{reads, few-clients, transcript-length}
+use Rattle.session.specs.FirstLine.{few-clients}
+use Rattle.session.specs.Lengths.{reads, transcript-length}
 
 -- A session on a log of its own: the fresh log, and the chain at the end.
 module _ (n : ℕ) (some : 1 ≤ n) (few : n ≤ clientLimit) where
-  pub fresh-is : (b : Buffers) (a : Answer) (state entries : List ℕ) → length (b .state) ≡ stateLength → length (b .entries) ≡ 4096
-      → FreshResult n b a state entries → buffers state entries ≡ freshBuffers 4096 n
+  pub fresh-is : (b : Buffers) (a : Answer) (state entries : List ℕ) → length (b .state) ≡ stateLength → length (b .entries) ≡ sessionCapacity
+      → FreshResult n b a state entries → buffers state entries ≡ freshBuffers sessionCapacity n
   unfolding afterFresh
   fresh-is b a state entries s e r =
       (λ i. buffers (r .state-words i) (r .entry-words i))
-      ∙ passed-first (freshChecks n b) (λ _. b) (freshBuffers (length (b .entries)) n) ((s, e), ((λ z. omega arith), (few, tt)))
+      ∙ passed-first (freshChecks n b) (λ _. b) (freshBuffers (length (b .entries)) n) ((s, e), (((λ z. omega arith), few), tt))
       ∙ ap (λ (k : ℕ). freshBuffers k n) e
 
-  module _ {ls : List Line} {b₁ b₂ : Buffers} {text text′ : List ℕ} {at : ℕ} (is : b₁ ≡ freshBuffers 4096 n) (r : Ran ls b₁ text b₂ text′ at) where
-    pub end-reads : (out : List ℕ) → 4096 ≤ length out → Reads b₂ out
+  module _ {ls : List Line} {b₁ b₂ : Buffers} {text text′ : List ℕ} {at : ℕ} (is : b₁ ≡ freshBuffers sessionCapacity n) (r : Ran ls b₁ text b₂ text′ at) where
+    pub end-reads : (out : List ℕ) → sessionCapacity ≤ length out → Reads b₂ out
     end-reads out h = subst (λ (b : Buffers). Reads b out) (sym (r .steps ∙ ap (afterSteps (taken ls)) is)) (reads n some few (taken ls) out h)
 
-    pub end-room : Room text 0 (session 1 ls (freshBuffers 4096 n)) → Room text′ at (chainLine (chainReading b₂))
+    pub end-room : Room text 0 (session 1 ls (freshBuffers sessionCapacity n)) → Room text′ at (chainLine (chainReading b₂))
     end-room h = left-room (r .left) (subst (λ (b : Buffers). Room text 0 (session 1 ls b)) (sym is) h)
 
     pub end-puts : (after : List ℕ) (end : ℕ) → Puts text′ at (chainLine (chainReading b₂)) after end
-        → Puts text 0 (session 1 ls (freshBuffers 4096 n)) after end
+        → Puts text 0 (session 1 ls (freshBuffers sessionCapacity n)) after end
     end-puts after end p = subst (λ (b : Buffers). Puts text 0 (session 1 ls b) after end) is (left-last (r .left) p)
 
-  pub fresh-room : (b : Buffers) (ls : List Line) (text : List ℕ) → b ≡ freshBuffers 4096 n → Room text 0 (session 1 ls (freshBuffers 4096 n))
+  pub fresh-room : (b : Buffers) (ls : List Line) (text : List ℕ) → b ≡ freshBuffers sessionCapacity n → Room text 0 (session 1 ls (freshBuffers sessionCapacity n))
       → Room text 0 (session 1 ls b)
   fresh-room b ls text e h = subst (λ (d : Buffers). Room text 0 (session 1 ls d)) (sym e) h
 
@@ -62,11 +63,11 @@ module _ (input : List ℕ) (end : ℕ) (ends : end ≡ 0 + indexOf 10 input) (n
   unfolding started
   bad-start z = first-start input end ends ∙ ap (λ (k : ℕ). started k (lines (drop (end + 1) input))) (sym counted ∙ z)
 
-  pub good-start : (n ≡ 0 → ⊥) → startedBy (lines input) ≡ session 1 (lines (drop (end + 1) input)) (freshBuffers 4096 n)
+  pub good-start : (n ≡ 0 → ⊥) → startedBy (lines input) ≡ session 1 (lines (drop (end + 1) input)) (freshBuffers sessionCapacity n)
   unfolding started
   good-start z = first-start input end ends ∙ ap (λ (k : ℕ). started k (lines (drop (end + 1) input))) (sym counted) ∙ at n z
     where
-      at : (k : ℕ) → (k ≡ 0 → ⊥) → started k (lines (drop (end + 1) input)) ≡ session 1 (lines (drop (end + 1) input)) (freshBuffers 4096 k)
+      at : (k : ℕ) → (k ≡ 0 → ⊥) → started k (lines (drop (end + 1) input)) ≡ session 1 (lines (drop (end + 1) input)) (freshBuffers sessionCapacity k)
       at zero z = absurd (z refl)
       at (suc k) z = refl
 

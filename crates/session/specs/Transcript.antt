@@ -25,6 +25,10 @@ use Rattle.session.specs.Lines.{Line, lines}
 abbrev pub inputLimit : ℕ
 inputLimit = 16384
 
+-- The words of the entry buffer of a session's log.
+abbrev pub sessionCapacity : ℕ
+sessionCapacity = 4096
+
 -- A line without byte 10 is a bad line, whatever stands in it.
 unfoldable pub requestOf : Line → Request
 requestOf l = cond (l .ended) (parseLine (l .content)) BadLine
@@ -62,7 +66,7 @@ clientCount l = cond (l .ended) (countOf (numeralOf (l .content))) 0
 
 unfoldable pub started : ℕ → List Line → List ℕ
 started zero ls = bytes "bad start\n"
-started (suc n) ls = session 1 ls (freshBuffers 4096 (suc n))
+started (suc n) ls = session 1 ls (freshBuffers sessionCapacity (suc n))
 
 unfoldable pub startedBy : List Line → List ℕ
 startedBy [] = bytes "bad start\n"

@@ -1,4 +1,6 @@
 // The start of a session: the length of the input and its first line.
+use records::layout::CLIENT_LIMIT;
+use records::layout::STATE_LENGTH;
 use text::decimal::Numeral;
 ghost use mathlib.Core.Path.{_≡_};
 ghost use Prim.Native.Nat.{_≤_};
@@ -6,16 +8,19 @@ ghost use lib.ListN.{length, drop};
 ghost use Rattle.text.specs.Puts.{Puts, Room};
 ghost use Rattle.chain.specs.Operations.{freshBuffers};
 ghost use Rattle.session.specs.Lines.{line, lines};
-ghost use Rattle.session.specs.Transcript.{countOf, clientCount, session, startedBy, transcript};
+ghost use Rattle.session.specs.Transcript.{sessionCapacity, countOf, clientCount, session, startedBy, transcript};
 
 // The most bytes of an input.
 pub const INPUT_LIMIT: usize = 16384;
+
+// The words of the entry buffer of a session's log.
+const CAPACITY: usize = 4096;
 
 fn count_of(numeral: Numeral) -> u64
     ensures { λ r. ⌜ r ≡ countOf numeral ⌝ }
 {
     match numeral {
-        Numeral::Number(n) => { if n <= 16 { n } else { 0 } }
+        Numeral::Number(n) => { if n <= CLIENT_LIMIT { n } else { 0 } }
         Numeral::NotNumeral => 0,
     }
 }
@@ -37,12 +42,12 @@ fn put_session(input: &[u8], from: usize, count: u64, text: &mut [u8]) -> usize
     requires small { ⌜ length (now input) ≤ 16384 ⌝ }
     requires some { ⌜ 1 ≤ count ⌝ }
     requires few { ⌜ count ≤ 16 ⌝ }
-    requires room { ⌜ Room (now text) 0 (session 1 (lines (drop from (now input))) (freshBuffers 4096 count)) ⌝ }
-    ensures { λ r. ⌜ Puts (now (text .entry)) 0 (session 1 (lines (drop from (now (input .entry)))) (freshBuffers 4096 count)) (now (text .exit)) r ⌝ }
+    requires room { ⌜ Room (now text) 0 (session 1 (lines (drop from (now input))) (freshBuffers sessionCapacity count)) ⌝ }
+    ensures { λ r. ⌜ Puts (now (text .entry)) 0 (session 1 (lines (drop from (now (input .entry)))) (freshBuffers sessionCapacity count)) (now (text .exit)) r ⌝ }
 {
-    let mut state = [0u64; 527];
-    let mut entries = [0u64; 4096];
-    let mut reading = [0u64; 4096];
+    let mut state = [0u64; STATE_LENGTH];
+    let mut entries = [0u64; CAPACITY];
+    let mut reading = [0u64; CAPACITY];
     fresh::fresh(&mut state, &mut entries, count);
     let at = crate::requests::put_replies(input, from, &mut state, &mut entries, text);
     crate::chain_end::put_chain(&state, &entries, &mut reading, text, at)

@@ -1,7 +1,7 @@
 -- `chain_count` meets its contract.
 use mathlib.Core.Path.{sym, ap, _∙_}
 use borrow.Author.Needs.{needs}
-use Rattle.capi.specs.Calls.{chainNumber, chainCount}
+use Rattle.chain.specs.Answers.{chainNumber, chainCount}
 use Rattle.capi.proofs.reading.chain_count.Statement.{statement}
 use Rattle.capi.proofs.reading.chain_count.Tie as tie
 

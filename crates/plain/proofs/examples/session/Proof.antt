@@ -5,28 +5,28 @@ use Rattle.plain.proofs.examples.session.Statement.{statement}
 use Rattle.plain.proofs.examples.session.Tie as tie
 
 abbrev Inv-loop : tie.InvT-loop
-Inv-loop state₀ entries₀ text₀ end e₀ line₀ state entries text e line = Unit
+Inv-loop model₀ state₀ entries₀ n₀ model state entries n = Unit
 
 abbrev μ-loop : tie.MeasureT-loop
-μ-loop state₀ entries₀ text₀ end e₀ line₀ state entries text e line = 15 - line
+μ-loop model₀ state₀ entries₀ n₀ model state entries n = 14 - n
 
-fresh-requires : tie.Need-fresh-requires Inv-loop μ-loop
-fresh-requires c κs = search needs
+begin-requires : tie.Need-begin-requires Inv-loop μ-loop
+begin-requires c κs = search needs
 
 loop-holds : tie.Need-loop-holds Inv-loop μ-loop
 loop-holds c = search needs
 
-session-step-requires : tie.Need-session-step-requires Inv-loop μ-loop
-session-step-requires c κs = search needs
+add-n : tie.Need-add-n Inv-loop μ-loop
+add-n c = search needs
 
-take-step-requires : tie.Need-take-step-requires Inv-loop μ-loop
-take-step-requires c κs = search needs
+step-requires : tie.Need-step-requires Inv-loop μ-loop
+step-requires c κs = search needs
 
-put-numbered-line-requires : tie.Need-put-numbered-line-requires Inv-loop μ-loop
-put-numbered-line-requires c κs = search needs
+take-requires : tie.Need-take-requires Inv-loop μ-loop
+take-requires c κs = search needs
 
-add-line : tie.Need-add-line Inv-loop μ-loop
-add-line c = search needs
+say-numbered-line-requires : tie.Need-say-numbered-line-requires Inv-loop μ-loop
+say-numbered-line-requires c κs = search needs
 
 loop-less : tie.Need-loop-less Inv-loop μ-loop
 loop-less c = search needs
@@ -43,12 +43,12 @@ session-spec =
     (tie.spec
     Inv-loop
     μ-loop
-    fresh-requires
+    begin-requires
     loop-holds
-    session-step-requires
-    take-step-requires
-    put-numbered-line-requires
-    add-line
+    add-n
+    step-requires
+    take-requires
+    say-numbered-line-requires
     loop-less
     loop-again
     returns)

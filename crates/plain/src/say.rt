@@ -1,0 +1,66 @@
+// What the program prints.
+use chain::answer::Answer;
+use comparison::difference::DIFFERENCE;
+use comparison::difference::NOTHING;
+use libc::STDOUT_FILENO;
+use model::variables::Model;
+use model::variables::at;
+
+pub fn say(bytes: &[u8]) {
+    io::write_all(STDOUT_FILENO, bytes);
+}
+
+pub fn say_number(n: u64) {
+    io::print_decimal(STDOUT_FILENO, n);
+}
+
+fn say_counted(word: &[u8], n: u64) {
+    say(word);
+    say_number(n);
+}
+
+// An answer as the session of document 01 words it.
+fn say_answer(answer: Answer) {
+    match answer {
+        Answer::Done => say(b" ok\n"),
+        Answer::WasClosed => say(b" was\n"),
+        Answer::Behind => say(b" behind\n"),
+        Answer::Written(n) => say_number_line(b" entry ", n.0),
+        Answer::Refused(r) => say_number_line(b" ref ", chain::answer::refusal_number(r)),
+    }
+}
+
+pub fn say_line(label: &[u8], answer: Answer) {
+    say(label);
+    say_answer(answer);
+}
+
+pub fn say_numbered_line(n: u64, answer: Answer) {
+    say_number(n);
+    say_answer(answer);
+}
+
+pub fn say_number_line(label: &[u8], n: u64) {
+    say_counted(label, n);
+    say(b"\n");
+}
+
+// How many steps the model took beside the log, and whether anything differed.
+pub fn say_difference(model: &Model) {
+    say_number_line(
+        b"beside the model ",
+        at(model, comparison::difference::STEPS, 0),
+    );
+    if at(model, DIFFERENCE, 0) == NOTHING {
+        say(b"no difference\n");
+    } else {
+        say_counted(
+            b"difference in history ",
+            at(model, comparison::difference::AT_HISTORY, 0),
+        );
+        say_number_line(
+            b" after step ",
+            at(model, comparison::difference::AT_STEP, 0),
+        );
+    }
+}
