@@ -1,4 +1,4 @@
-// How far the comparison has come and what differs first: numbers in the model's array, behind the variables of 002.
+// How far the comparison has come and what differs first: numbers in the model's array, behind the variables of LedgerChaining.
 use model::variables::Model;
 use model::variables::at;
 use model::variables::put;

@@ -63,7 +63,7 @@ pub fn follow(
     said
 }
 
-// A fresh log, and what fresh answered, beside the first state of 002.
+// A fresh log, and what fresh answered, beside the first state of LedgerChaining.
 pub fn begin(model: &mut Model, state: &State, entries: &Entries, clients: u64, answer: Answer) {
     add(model, HISTORIES, 0, 1);
     put(model, STEP, 0, 0);

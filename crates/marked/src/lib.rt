@@ -1,1 +1,1 @@
-// The marked examples of document 01, proved over the definitions. Nothing runs here: the table is in specs/.
+// The reference's example words and answers, proved over the definitions. Nothing runs here: the table is in specs/.

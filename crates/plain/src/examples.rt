@@ -1,4 +1,4 @@
-// Document 01's session and plain examples. Each starts from a fresh log.
+// The reference's example session and limits. Each starts from a fresh log.
 use crate::beside::asked;
 use crate::beside::begin;
 use crate::beside::take;
@@ -71,7 +71,7 @@ fn become_on_short(state: &mut [u64], entries: &mut [u64]) -> Answer
     steps::become_leader::become_leader(&mut state[..526], entries, 0)
 }
 
-// No state of 002 is a word short, so the model takes no step here; the words are still its own.
+// No state of LedgerChaining is a word short, so the model takes no step here; the words are still its own.
 pub fn short_state(model: &mut Model, state: &mut State, entries: &mut Entries) {
     begin(model, state, entries, 3);
     let answer = become_on_short(state, entries);
@@ -79,7 +79,7 @@ pub fn short_state(model: &mut Model, state: &mut State, entries: &mut Entries) 
     comparison::buffers::compare_buffers(model, state, entries);
 }
 
-// The most clients that a log may have, one more, and none. 002 has no state for the last two: the words stay those of 16 clients.
+// The most clients that a log may have, one more, and none. LedgerChaining has no state for the last two: the words stay those of 16 clients.
 pub fn client_counts(model: &mut Model, state: &mut State, entries: &mut Entries) {
     let most = begin(model, state, entries, 16);
     say_line(b"fresh 16", most);

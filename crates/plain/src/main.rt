@@ -1,4 +1,4 @@
-// Runs document 01's session and plain examples on the log, with a model of source 002 beside it, and prints the answer of each, one to a line.
+// Runs the reference's example session and limits on the log, with a model of LedgerChaining beside it, and prints the answer of each, one to a line.
 mod beside;
 mod examples;
 mod readings;

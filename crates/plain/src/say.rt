@@ -19,7 +19,7 @@ fn say_counted(word: &[u8], n: u64) {
     say_number(n);
 }
 
-// An answer as the session of document 01 words it.
+// An answer as a session words it.
 fn say_answer(answer: Answer) {
     match answer {
         Answer::Done => say(b" ok\n"),

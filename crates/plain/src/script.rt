@@ -16,7 +16,7 @@ pub const LEDGERS: u64 = 1;
 
 pub const ENTRIES: u64 = 2;
 
-// Document 01's session: after its line 4 client 0 leads and has its ledger listed.
+// The reference's example session: after its line 4 client 0 leads and has its ledger listed.
 fn session_step(line: u64) -> Asked {
     match line {
         1 => asked(BECOME, 0),

@@ -1,4 +1,4 @@
--- Document 01's session, and short inputs, worked out by the definition itself.
+-- The reference's example session, and short inputs, worked out by the definition itself.
 use mathlib.Core.Path.{_≡_, refl}
 use lib.ListN.{replicate}
 use Rattle.text.specs.Bytes.{bytes}
@@ -30,7 +30,7 @@ one-more-byte : transcript (replicate 16385 10) ≡ bytes "too long\n"
 unfolding transcript
 one-more-byte = refl
 
-of-document-01 : transcript (bytes "3\nB 0\nF 0\nC 0\nP 0\nW 0 7\nN 1\nB 1\nF 1\nL 1\nW 0 8\nC 1\nP 1\nW 1 9\nO 0\n")
+example-session : transcript (bytes "3\nB 0\nF 0\nC 0\nP 0\nW 0 7\nN 1\nB 1\nF 1\nL 1\nW 0 8\nC 1\nP 1\nW 1 9\nO 0\n")
     ≡ bytes "1 ok\n2 ok\n3 ok\n4 ok\n5 entry 0\n6 ok\n7 ok\n8 ok\n9 ok\n10 ref 12\n11 ok\n12 ok\n13 entry 1\n14 behind\nchain 0:7 1:9\n"
 unfolding transcript startedBy lines longer started clientCount session requestOf indexOf parseLine parseWrite letterStep withClient numeralOf starts allDigits isDigit value decimal digits replyLine entryText entriesText chainLine cleared chainReading freshBuffers afterStep stepAnswer stepEffect everyFrom packHead packClient packLedger packPlace packEntry unpackHead unpackClient unpackLedger unpackPlace unpackEntry put place ofLedger alongList newestFrom head clientsIn ledgersIn listIn entriesIn
-of-document-01 = refl
+example-session = refl
