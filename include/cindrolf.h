@@ -1,11 +1,13 @@
-/* The log for controllers in C, C++ and Rust: the functions of target/staticlib/libcapi.a, which `rt staticlib capi` proves and builds.
+/* The log for controllers in C, C++ and Rust: the functions of the archive libcindrolf.a, which is proved. `./install PREFIX` builds it and
+ * puts it, this header and a file for pkg-config below PREFIX.
  *
  * A log lives in two buffers of 64-bit words that the caller lends, one for the state and one for the entries. Nobody else writes them.
  * Persist both together after every step that is not refused.
  *
- * Buffers of any length and content are answered, and so is every number. What the caller answers for: a pointer is not null, is aligned
- * for uint64_t and is valid for as many words as the length beside it says; the buffers of one call do not overlap; and no other thread
- * uses them during the call.
+ * Buffers of any length and content are answered, and so is every number. A null pointer with length 0 is an empty buffer; as state or
+ * entries it gives refusal 1, as every wrong length does. What the caller answers for: any other pointer is not null, is aligned for
+ * uint64_t and is valid for as many words as the length beside it says; the buffers of one call do not overlap: state, entries and output
+ * are separate pieces of memory; and no other thread uses them during the call.
  *
  * Rust declares the same functions in an `extern "C"` block, and the two structs as #[repr(C)].
  */
@@ -22,6 +24,12 @@
 extern "C" {
 #endif
 
+/* The number of this interface. It goes up with every change that a caller has to follow. */
+#define CINDROLF_VERSION UINT64_C(1)
+
+/* The number of the interface that the archive has. Compare it with CINDROLF_VERSION before the first call. */
+uint64_t cindrolf_version(void);
+
 /* The lengths of the two buffers, in words. */
 #define CINDROLF_STATE_WORDS 527
 #define CINDROLF_ENTRY_WORDS 4096
@@ -34,7 +42,7 @@ extern "C" {
 #define CINDROLF_ENTRY UINT64_C(65536)
 
 /* The refusals. The first that applies is given; it changes no word of any buffer. */
-#define CINDROLF_REFUSAL_WRONG_LENGTH UINT64_C(1)       /* a buffer has another length than those above */
+#define CINDROLF_REFUSAL_WRONG_LENGTH UINT64_C(1)       /* state or entries has another length than those above */
 #define CINDROLF_REFUSAL_NOT_WELL_FORMED UINT64_C(2)    /* the buffers hold no log */
 #define CINDROLF_REFUSAL_UNKNOWN_CLIENT UINT64_C(3)     /* the client is not below the client count */
 #define CINDROLF_REFUSAL_ALREADY_NAMED UINT64_C(4)      /* the client is the named leader */

@@ -1,4 +1,4 @@
-//! Links the proved archive, libcapi.a.
+//! Links the proved archive, libcindrolf.a.
 
 use std::env;
 use std::path::PathBuf;
@@ -14,15 +14,15 @@ fn main() {
         Some(folder) => PathBuf::from(folder),
         None => PathBuf::from(env::var_os("CARGO_MANIFEST_DIR").unwrap()).join("../../target/staticlib"),
     };
-    let archive = folder.join("libcapi.a");
+    let archive = folder.join("libcindrolf.a");
     println!("cargo::rerun-if-changed={}", archive.display());
     if !archive.is_file() {
         println!("cargo::error=no archive at {}", archive.display());
         println!(
-            "cargo::error=build it by `rt staticlib capi` in the root of the repository, or name its folder in CINDROLF_ARCHIVE_DIR"
+            "cargo::error=build it by `rust/archive` in the root of the repository, or name its folder in CINDROLF_ARCHIVE_DIR"
         );
         return;
     }
     println!("cargo::rustc-link-search=native={}", folder.display());
-    println!("cargo::rustc-link-lib=static=capi");
+    println!("cargo::rustc-link-lib=static=cindrolf");
 }

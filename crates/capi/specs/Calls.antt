@@ -16,6 +16,10 @@ use Rattle.chain.specs.Laws.Numbers.{NumbersBelow, step-numbers}
 use Rattle.fresh.specs.Fresh.{FreshResult}
 use Rattle.readers.specs.Locate.{partStart, Locates}
 
+-- The number of this interface, the same as CINDROLF_VERSION in include/cindrolf.h.
+abbrev pub interfaceVersion : ℕ
+interfaceVersion = 1
+
 -- An operation on both buffers: its answer, and every word afterwards.
 pub record Call (a : Answer) (after : Buffers) (r : ℕ) (state entries : List ℕ) : Type 0 where
   pub answers : r ≡ answerNumber a

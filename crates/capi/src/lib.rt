@@ -3,3 +3,4 @@ pub mod log;
 mod number;
 pub mod reading;
 pub mod step;
+pub mod version;

@@ -33,7 +33,7 @@ use Rattle.session.specs.Parts.{request-steps, Reads}
 use Rattle.session.specs.Transcript.{inputLimit, textLimit, sessionCapacity, requestOf, replyTo, afterRequest, taken, session, clientCount, started, startedBy, transcript}
 use Rattle.session.specs.SessionPromise.{blank}
 use Rattle.session.specs.FirstLine.{few-clients}
-use Rattle.session.specs.Begins.{left-by-fresh, history}
+use Rattle.session.specs.Begins.{log-capacity, left-by-fresh, history}
 
 answer-length : (a : Answer) → NumbersBelow a → length (answerText a) ≤ 10
 answer-length Done h = omega arith
@@ -123,7 +123,7 @@ module _ (n : ℕ) (some : 1 ≤ n) (few : n ≤ clientLimit) (xs : List Step) w
       ∙ length-replicate sessionCapacity none
 
   good : Good (afterSteps xs b₀)
-  good = steps-good xs b₀ (fresh-formed sessionCapacity n some few refl)
+  good = steps-good xs b₀ (fresh-formed sessionCapacity n some few (log-capacity refl))
 
   pub reading-length : length (chainReading (afterSteps xs b₀)) ≤ sessionCapacity
   reading-length =

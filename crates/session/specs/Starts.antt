@@ -23,6 +23,7 @@ use Rattle.session.specs.LineLaws.{next-line}
 use Rattle.session.specs.Transcript.{textLimit, sessionCapacity, taken, session, clientCount, started, startedBy, transcript, transcriptAnswer, transcriptText}
 use Rattle.session.specs.Parts.{Ran, Reads}
 use Rattle.session.specs.FirstLine.{few-clients}
+use Rattle.session.specs.Begins.{log-capacity}
 use Rattle.session.specs.Lengths.{reads, transcript-length}
 
 -- A session on a log of its own: the fresh log, and the chain at the end.
@@ -32,7 +33,7 @@ module _ (n : ℕ) (some : 1 ≤ n) (few : n ≤ clientLimit) where
   unfolding afterFresh
   fresh-is b a state entries s e r =
       (λ i. buffers (r .state-words i) (r .entry-words i))
-      ∙ passed-first (freshChecks n b) (λ _. b) (freshBuffers (length (b .entries)) n) ((s, e), (((λ z. omega arith), few), tt))
+      ∙ passed-first (freshChecks n b) (λ _. b) (freshBuffers (length (b .entries)) n) ((s, log-capacity e), (((λ z. omega arith), few), tt))
       ∙ ap (λ (k : ℕ). freshBuffers k n) e
 
   module _ {ls : List Line} {b₁ b₂ : Buffers} {text text′ : List ℕ} {at : ℕ} (is : b₁ ≡ freshBuffers sessionCapacity n) (r : Ran ls b₁ text b₂ text′ at) where

@@ -63,13 +63,19 @@ fn calibrate(candidate: &mut Candidate, slice: Duration) -> u32 {
     times
 }
 
+/// The order of a round: each candidate goes first in its turn, so that none always runs in the same one's wake.
+fn order(round: usize, count: usize) -> impl Iterator<Item = usize> {
+    (0..count).map(move |place| (round + place) % count)
+}
+
 /// Times the candidates in turn, for so many rounds of one slice each.
 pub fn interleaved(mut candidates: Vec<Candidate>, rounds: usize, slice: Duration) -> Vec<Times> {
     let times: Vec<u32> = candidates.iter_mut().map(|candidate| calibrate(candidate, slice)).collect();
     let mut taken = vec![vec![]; candidates.len()];
-    for _ in 0..rounds {
-        for ((candidate, &times), taken) in candidates.iter_mut().zip(&times).zip(&mut taken) {
-            taken.push(time(candidate, times).as_nanos() as f64 / times as f64);
+    for round in 0..rounds {
+        for index in order(round, candidates.len()) {
+            let nanoseconds = time(&mut candidates[index], times[index]).as_nanos() as f64;
+            taken[index].push(nanoseconds / times[index] as f64);
         }
     }
     let ratio = |other: &Vec<f64>| taken[0].iter().zip(other).map(|(first, other)| first / other).collect();
@@ -85,6 +91,12 @@ pub fn interleaved(mut candidates: Vec<Candidate>, rounds: usize, slice: Duratio
 #[cfg(test)]
 mod tests {
     use super::*;
+
+    #[test]
+    fn each_goes_first_in_its_turn() {
+        let orders: Vec<Vec<usize>> = (0..4).map(|round| order(round, 3).collect()).collect();
+        assert_eq!(orders, [[0, 1, 2], [1, 2, 0], [2, 0, 1], [0, 1, 2]]);
+    }
 
     #[test]
     fn quartiles() {

@@ -1,13 +1,14 @@
 //! Every operation as a function over plain slices, which may have any length and content.
 //!
 //! ```
-//! use cindrolf::{Answer, Refusal, calls};
+//! use cindrolf::{Error, Refusal, calls};
 //!
 //! let (mut state, mut entries) = (vec![0; 527], vec![0; 4096]);
-//! assert_eq!(calls::name(&mut state, &mut entries, 1), Err(Refusal::NotWellFormed));
-//! assert_eq!(calls::fresh(&mut state, &mut entries, 2), Ok(Answer::Done));
-//! assert_eq!(calls::name(&mut state, &mut entries, 1), Ok(Answer::Done));
-//! assert_eq!(calls::name(&mut state[..526], &mut entries, 0), Err(Refusal::WrongLength));
+//! assert_eq!(calls::name(&mut state, &mut entries, 1), Err(Error::Refused(Refusal::NotWellFormed)));
+//! calls::fresh(&mut state, &mut entries, 2)?;
+//! calls::name(&mut state, &mut entries, 1)?;
+//! assert_eq!(calls::name(&mut state[..526], &mut entries, 0), Err(Error::Refused(Refusal::WrongLength)));
+//! # Ok::<(), Error>(())
 //! ```
 //!
 //! The unsafe blocks below are sound for one reason. The library reads and writes only the words that it is lent by
@@ -15,79 +16,70 @@
 //! null and valid for their lengths. A `&mut` slice is lent to nobody else meanwhile, so what the library changes
 //! overlaps nothing. Each block's comment adds what is special to it.
 
-use crate::answer::from_number;
-use crate::{Answer, Refusal, raw};
+use crate::{CloseLast, EntryNumber, Error, LedgerNumber, Progress, answer, raw};
 
-/// Makes the buffers an empty log for 1 to 16 clients, of which client 0 is the named leader.
-pub fn fresh(state: &mut [u64], entries: &mut [u64], client_count: u64) -> Result<Answer, Refusal> {
-    // SAFETY: both slices are exclusive; a word may hold any bits, so what they held before doesn't matter.
-    let number = unsafe {
-        raw::cindrolf_fresh(state.as_mut_ptr(), state.len(), entries.as_mut_ptr(), entries.len(), client_count)
-    };
-    from_number(number)
-}
-
-macro_rules! step {
-    ($(#[$doc:meta])* $name:ident, $raw:ident $(, $value:ident)?) => {
+// An operation that changes both buffers, by the numbers that it takes and the answers that it can give.
+macro_rules! operation {
+    ($(#[$doc:meta])* $name:ident($($number:ident),*), $raw:ident, $answer:path => $given:ty) => {
         $(#[$doc])*
-        pub fn $name(
-            state: &mut [u64],
-            entries: &mut [u64],
-            client: u64,
-            $($value: u64,)?
-        ) -> Result<Answer, Refusal> {
-            // SAFETY: both slices are exclusive, and a client or value is any number.
+        pub fn $name(state: &mut [u64], entries: &mut [u64], $($number: u64),*) -> Result<$given, Error> {
+            // SAFETY: both slices are exclusive, and each number is any number.
             let number = unsafe {
-                raw::$raw(state.as_mut_ptr(), state.len(), entries.as_mut_ptr(), entries.len(), client $(, $value)?)
+                raw::$raw(state.as_mut_ptr(), state.len(), entries.as_mut_ptr(), entries.len(), $($number),*)
             };
-            from_number(number)
+            $answer(number)
         }
     };
 }
 
-step! {
+operation! {
+    /// Makes the buffers an empty log for 1 to 16 clients, of which client 0 is the named leader.
+    fresh(client_count), cindrolf_fresh, answer::done => ()
+}
+
+operation! {
     /// The client becomes the named leader.
-    name, cindrolf_name
+    name(client), cindrolf_name, answer::done => ()
 }
 
-step! {
+operation! {
     /// The client, which is named, starts to lead.
-    become_leader, cindrolf_become
+    become_leader(client), cindrolf_become, answer::done => ()
 }
 
-step! {
+operation! {
     /// The client, which is no longer named, stops leading.
-    abdicate, cindrolf_abdicate
+    abdicate(client), cindrolf_abdicate, answer::done => ()
 }
 
-step! {
+operation! {
     /// The client remembers the list's length and its last ledger.
-    fetch, cindrolf_fetch
+    fetch(client), cindrolf_fetch, answer::done => ()
 }
 
-step! {
+operation! {
     /// The client closes and fences the ledger that it fetched.
-    close_last, cindrolf_close_last
+    close_last(client), cindrolf_close_last, answer::close_last => CloseLast
 }
 
-step! {
+operation! {
     /// The client creates a ledger.
-    create, cindrolf_create
+    create(client), cindrolf_create, answer::done => ()
 }
 
-step! {
+operation! {
     /// The client appends its new ledger to the list.
-    append, cindrolf_append
+    append(client), cindrolf_append, answer::progress => Progress
 }
 
-step! {
+operation! {
     /// The client adds an entry to its ledger, and is answered the entry's number.
-    write, cindrolf_write, value
+    write(client, value), cindrolf_write, answer::entry => EntryNumber
 }
 
-step! {
+operation! {
     /// The client closes its own ledger.
-    close_own, cindrolf_close_own
+    close_own(client), cindrolf_close_own, answer::progress => Progress
 }
 
 /// Whether the buffers have the right lengths and hold a well-formed log.
@@ -97,19 +89,19 @@ pub fn well_formed(state: &[u64], entries: &[u64]) -> bool {
 }
 
 /// The part of the entry buffer with the entries of a listed ledger, as stored words.
-pub fn read_ledger<'a>(state: &[u64], entries: &'a [u64], ledger: u64) -> Result<&'a [u64], Refusal> {
+pub fn read_ledger<'a>(state: &[u64], entries: &'a [u64], ledger: LedgerNumber) -> Result<&'a [u64], Error> {
     // SAFETY: nothing is changed; the answer is a struct of three numbers.
     let part =
-        unsafe { raw::cindrolf_read_ledger(state.as_ptr(), state.len(), entries.as_ptr(), entries.len(), ledger) };
-    from_number(part.answer)?;
-    // The part lies in the entry buffer; the slicing tests that once more.
+        unsafe { raw::cindrolf_read_ledger(state.as_ptr(), state.len(), entries.as_ptr(), entries.len(), ledger.0) };
+    answer::done(part.answer)?;
     let start = part.start as usize;
-    Ok(&entries[start..start + part.count as usize])
+    let words = start.checked_add(part.count as usize).and_then(|end| entries.get(start..end));
+    words.ok_or(Error::UnknownAnswer(part.start))
 }
 
 /// Writes the entries of all listed ledgers to the front of the output buffer, each without its ledger number, and
 /// answers how many they are. The words after them stay.
-pub fn read_chain(state: &[u64], entries: &[u64], output: &mut [u64]) -> Result<usize, Refusal> {
+pub fn read_chain(state: &[u64], entries: &[u64], output: &mut [u64]) -> Result<usize, Error> {
     // SAFETY: the output alone is changed, and it is exclusive; the answer is a struct of two numbers.
     let read = unsafe {
         raw::cindrolf_read_chain(
@@ -121,6 +113,7 @@ pub fn read_chain(state: &[u64], entries: &[u64], output: &mut [u64]) -> Result<
             output.len(),
         )
     };
-    from_number(read.answer)?;
-    Ok(read.count as usize)
+    answer::done(read.answer)?;
+    let count = read.count as usize;
+    if count <= output.len() { Ok(count) } else { Err(Error::UnknownAnswer(read.count)) }
 }

@@ -4,48 +4,53 @@
 //! them; a [`LogMut`] or a [`LogRef`] borrows them from wherever they are kept; the functions of [`calls`] take plain
 //! slices. All of them answer buffers of any length and content, and any number. A [`Refusal`] changes nothing.
 //!
-//! Persist both buffers together after every step that isn't refused.
+//! Persist both buffers together after every step that isn't refused. A [`View`] says what a log holds: the named
+//! leader, where each client stands, the list and its ledgers.
 //!
 //! Two controllers, of which the second takes over the lead:
 //!
 //! ```
-//! use cindrolf::{Answer, Log, Refusal, client_of, value_of};
+//! use cindrolf::{CloseLast, EntryNumber, Error, Log, Progress, Refusal, client_of, value_of};
 //!
 //! let mut log = Log::fresh(3)?;
 //! log.become_leader(0)?;
 //! log.fetch(0)?;
 //! log.create(0)?;
-//! log.append(0)?;
-//! assert_eq!(log.write(0, 7), Ok(Answer::Entry(0)));
+//! assert_eq!(log.append(0)?, Progress::Done);
+//! assert_eq!(log.write(0, 7)?, EntryNumber(0));
 //!
 //! log.name(1)?;
 //! log.become_leader(1)?;
 //! log.fetch(1)?;
-//! assert_eq!(log.close_last(1), Ok(Answer::Done));
+//! assert_eq!(log.close_last(1)?, CloseLast::Done);
 //! // From now on the old leader is turned away.
-//! assert_eq!(log.write(0, 8), Err(Refusal::LedgerFenced));
+//! assert_eq!(log.write(0, 8), Err(Error::Refused(Refusal::LedgerFenced)));
 //! log.create(1)?;
-//! log.append(1)?;
-//! assert_eq!(log.write(1, 9), Ok(Answer::Entry(1)));
-//! assert_eq!(log.close_own(0), Ok(Answer::Behind));
+//! assert_eq!(log.append(1)?, Progress::Done);
+//! assert_eq!(log.write(1, 9)?, EntryNumber(1));
+//! assert_eq!(log.close_own(0)?, Progress::Behind);
 //!
 //! let mut output = [0; cindrolf::ENTRY_WORDS];
 //! let count = log.read_chain(&mut output)?;
 //! let chain: Vec<_> = output[..count].iter().map(|&word| (client_of(word), value_of(word))).collect();
 //! assert_eq!(chain, [(0, 7), (1, 9)]);
-//! # Ok::<(), Refusal>(())
+//! # Ok::<(), Error>(())
 //! ```
-
-#![deny(missing_docs)]
-#![deny(unsafe_op_in_unsafe_fn)]
 
 mod answer;
 pub mod calls;
+mod error;
 mod log;
-mod raw;
+#[doc(hidden)]
+pub mod raw;
+mod version;
+mod view;
 
-pub use answer::{Answer, Refusal};
+pub use answer::{CloseLast, EntryNumber, LedgerNumber, Progress};
+pub use error::{Error, Refusal};
 pub use log::{Log, LogMut, LogRef};
+pub use version::{VERSION, check_version};
+pub use view::{Client, Entry, Ledger, ListPlace, Remembered, Stage, View};
 
 /// Words in a state buffer.
 pub const STATE_WORDS: usize = 527;
@@ -56,9 +61,12 @@ pub const MAX_CLIENTS: u64 = 16;
 /// The largest value that an entry holds.
 pub const MAX_VALUE: u64 = (1 << 52) - 1;
 
-/// The ledger number in an entry's word. It is 0 in the words that read chain writes.
-pub const fn ledger_of(word: u64) -> u64 {
-    word >> 56
+/// The ledger number in an entry's word. The words that read chain writes have none.
+pub const fn ledger_of(word: u64) -> Option<LedgerNumber> {
+    match word >> 56 {
+        0 => None,
+        number => Some(LedgerNumber(number)),
+    }
 }
 
 /// The client in an entry's word.

@@ -1,20 +1,48 @@
 //! A log that owns its buffers, and logs that borrow them.
 
-use crate::{Answer, ENTRY_WORDS, Refusal, STATE_WORDS, calls};
+use crate::{
+    CloseLast, ENTRY_WORDS, EntryNumber, Error, LedgerNumber, Progress, Refusal, STATE_WORDS, View, calls,
+    check_version,
+};
 
 /// A log that owns its two buffers.
 ///
 /// It is well formed, since it begins fresh or is tested on the way in, and every step keeps it so.
 ///
 /// ```
-/// use cindrolf::{Answer, Log};
+/// use cindrolf::Log;
 ///
 /// let mut log = Log::fresh(1)?;
-/// assert_eq!(log.become_leader(0), Ok(Answer::Done));
+/// log.become_leader(0)?;
 /// // Both buffers are persisted together, and read back later.
 /// let (state, entries) = (log.state().to_vec(), log.entries().to_vec());
 /// assert_eq!(Log::from_words(&state, &entries), Ok(log));
-/// # Ok::<(), cindrolf::Refusal>(())
+/// # Ok::<(), cindrolf::Error>(())
+/// ```
+///
+/// A behind can't be dropped unseen. This compiles:
+///
+/// ```
+/// #![deny(unused_must_use)]
+/// use cindrolf::{Error, Log, Progress};
+///
+/// fn chain(log: &mut Log, client: u64) -> Result<bool, Error> {
+///     log.create(client)?;
+///     Ok(log.append(client)? == Progress::Done)
+/// }
+/// ```
+///
+/// This doesn't:
+///
+/// ```compile_fail
+/// #![deny(unused_must_use)]
+/// use cindrolf::{Error, Log, Progress};
+///
+/// fn chain(log: &mut Log, client: u64) -> Result<bool, Error> {
+///     log.create(client)?;
+///     log.append(client)?;
+///     Ok(true)
+/// }
 /// ```
 #[derive(Clone, Debug, PartialEq, Eq)]
 pub struct Log {
@@ -25,13 +53,14 @@ pub struct Log {
 /// A log in buffers that are borrowed to be changed. They may have any length and content.
 ///
 /// ```
-/// use cindrolf::{Answer, LogMut};
+/// use cindrolf::LogMut;
 ///
 /// let (mut state, mut entries) = ([0; cindrolf::STATE_WORDS], [0; cindrolf::ENTRY_WORDS]);
 /// let mut log = LogMut::new(&mut state, &mut entries);
-/// assert_eq!(log.fresh(2), Ok(Answer::Done));
-/// assert_eq!(log.name(1), Ok(Answer::Done));
-/// assert!(cindrolf::calls::well_formed(&state, &entries));
+/// log.fresh(2)?;
+/// log.name(1)?;
+/// assert!(log.well_formed());
+/// # Ok::<(), cindrolf::Error>(())
 /// ```
 #[derive(Debug)]
 pub struct LogMut<'a> {
@@ -42,11 +71,11 @@ pub struct LogMut<'a> {
 /// A log in buffers that are borrowed to be read. They may have any length and content.
 ///
 /// ```
-/// use cindrolf::{LogRef, Refusal};
+/// use cindrolf::{Error, LedgerNumber, LogRef, Refusal};
 ///
 /// let empty = LogRef::new(&[], &[]);
 /// assert!(!empty.well_formed());
-/// assert_eq!(empty.read_ledger(1), Err(Refusal::WrongLength));
+/// assert_eq!(empty.read_ledger(LedgerNumber(1)), Err(Error::Refused(Refusal::WrongLength)));
 /// ```
 #[derive(Clone, Copy, Debug)]
 pub struct LogRef<'a> {
@@ -56,31 +85,23 @@ pub struct LogRef<'a> {
 
 impl Log {
     /// An empty log for 1 to 16 clients, of which client 0 is the named leader.
-    pub fn fresh(client_count: u64) -> Result<Log, Refusal> {
+    pub fn fresh(client_count: u64) -> Result<Log, Error> {
+        check_version()?;
         let mut log = Log { state: vec![0; STATE_WORDS].into(), entries: vec![0; ENTRY_WORDS].into() };
         calls::fresh(&mut log.state, &mut log.entries, client_count)?;
         Ok(log)
     }
 
     /// A log that was persisted. It is refused where the words hold none.
-    pub fn from_words(state: &[u64], entries: &[u64]) -> Result<Log, Refusal> {
-        if state.len() != STATE_WORDS || entries.len() != ENTRY_WORDS {
-            return Err(Refusal::WrongLength);
-        }
-        if !calls::well_formed(state, entries) {
-            return Err(Refusal::NotWellFormed);
-        }
+    pub fn from_words(state: &[u64], entries: &[u64]) -> Result<Log, Error> {
+        check_version()?;
+        LogRef::new(state, entries).view()?;
         Ok(Log { state: state.into(), entries: entries.into() })
     }
 
-    /// The state buffer, to persist.
-    pub fn state(&self) -> &[u64] {
-        &self.state
-    }
-
-    /// The entry buffer, to persist.
-    pub fn entries(&self) -> &[u64] {
-        &self.entries
+    /// What the log holds.
+    pub fn view(&self) -> View<'_> {
+        View::new(&self.state, &self.entries)
     }
 
     /// The log, borrowed to be read.
@@ -101,8 +122,13 @@ impl<'a> LogMut<'a> {
     }
 
     /// Makes the buffers an empty log for 1 to 16 clients, of which client 0 is the named leader.
-    pub fn fresh(&mut self, client_count: u64) -> Result<Answer, Refusal> {
+    pub fn fresh(&mut self, client_count: u64) -> Result<(), Error> {
         calls::fresh(self.state, self.entries, client_count)
+    }
+
+    /// What the log holds. It is refused where the buffers hold none.
+    pub fn view(&self) -> Result<View<'_>, Error> {
+        self.as_ref().view()
     }
 
     /// The log, borrowed to be read.
@@ -117,19 +143,40 @@ impl<'a> LogRef<'a> {
         LogRef { state, entries }
     }
 
+    /// The state buffer.
+    pub fn state(&self) -> &'a [u64] {
+        self.state
+    }
+
+    /// The entry buffer.
+    pub fn entries(&self) -> &'a [u64] {
+        self.entries
+    }
+
     /// Whether the buffers have the right lengths and hold a well-formed log.
     pub fn well_formed(&self) -> bool {
         calls::well_formed(self.state, self.entries)
     }
 
+    /// What the log holds. It is refused where the buffers hold none.
+    pub fn view(&self) -> Result<View<'a>, Error> {
+        if self.state.len() != STATE_WORDS || self.entries.len() != ENTRY_WORDS {
+            return Err(Refusal::WrongLength.into());
+        }
+        if !self.well_formed() {
+            return Err(Refusal::NotWellFormed.into());
+        }
+        Ok(View::new(self.state, self.entries))
+    }
+
     /// The entries of a listed ledger: the very part of the entry buffer, as stored words.
-    pub fn read_ledger(&self, ledger: u64) -> Result<&'a [u64], Refusal> {
+    pub fn read_ledger(&self, ledger: LedgerNumber) -> Result<&'a [u64], Error> {
         calls::read_ledger(self.state, self.entries, ledger)
     }
 
     /// Writes the entries of all listed ledgers to the front of the output, each without its ledger number, and answers
     /// how many they are. [`ENTRY_WORDS`] words are enough for every log that began fresh.
-    pub fn read_chain(&self, output: &mut [u64]) -> Result<usize, Refusal> {
+    pub fn read_chain(&self, output: &mut [u64]) -> Result<usize, Error> {
         calls::read_chain(self.state, self.entries, output)
     }
 }
@@ -138,51 +185,61 @@ macro_rules! operations {
     ($($log:ty),*) => {$(
         impl $log {
             /// The client becomes the named leader.
-            pub fn name(&mut self, client: u64) -> Result<Answer, Refusal> {
+            pub fn name(&mut self, client: u64) -> Result<(), Error> {
                 calls::name(&mut self.state, &mut self.entries, client)
             }
 
             /// The client, which is named, starts to lead. It fetches next.
-            pub fn become_leader(&mut self, client: u64) -> Result<Answer, Refusal> {
+            pub fn become_leader(&mut self, client: u64) -> Result<(), Error> {
                 calls::become_leader(&mut self.state, &mut self.entries, client)
             }
 
             /// The client, which is no longer named, stops leading.
-            pub fn abdicate(&mut self, client: u64) -> Result<Answer, Refusal> {
+            pub fn abdicate(&mut self, client: u64) -> Result<(), Error> {
                 calls::abdicate(&mut self.state, &mut self.entries, client)
             }
 
             /// The client remembers the list's length and its last ledger. It closes that next; with an empty list it
             /// creates one next.
-            pub fn fetch(&mut self, client: u64) -> Result<Answer, Refusal> {
+            pub fn fetch(&mut self, client: u64) -> Result<(), Error> {
                 calls::fetch(&mut self.state, &mut self.entries, client)
             }
 
             /// The client closes and fences the ledger that it fetched. It creates one next, or fetches again when it
             /// is behind.
-            pub fn close_last(&mut self, client: u64) -> Result<Answer, Refusal> {
+            pub fn close_last(&mut self, client: u64) -> Result<CloseLast, Error> {
                 calls::close_last(&mut self.state, &mut self.entries, client)
             }
 
             /// The client creates a ledger. It appends it next.
-            pub fn create(&mut self, client: u64) -> Result<Answer, Refusal> {
+            pub fn create(&mut self, client: u64) -> Result<(), Error> {
                 calls::create(&mut self.state, &mut self.entries, client)
             }
 
             /// The client appends its new ledger to the list, and may write. When it is behind it no longer leads.
-            pub fn append(&mut self, client: u64) -> Result<Answer, Refusal> {
+            pub fn append(&mut self, client: u64) -> Result<Progress, Error> {
                 calls::append(&mut self.state, &mut self.entries, client)
             }
 
             /// The client adds an entry to its ledger, and is answered the entry's number.
-            pub fn write(&mut self, client: u64, value: u64) -> Result<Answer, Refusal> {
+            pub fn write(&mut self, client: u64, value: u64) -> Result<EntryNumber, Error> {
                 calls::write(&mut self.state, &mut self.entries, client, value)
             }
 
             /// The client closes its own ledger, without a fence. It creates one next. When it is behind it no longer
             /// leads.
-            pub fn close_own(&mut self, client: u64) -> Result<Answer, Refusal> {
+            pub fn close_own(&mut self, client: u64) -> Result<Progress, Error> {
                 calls::close_own(&mut self.state, &mut self.entries, client)
+            }
+
+            /// The state buffer, to persist.
+            pub fn state(&self) -> &[u64] {
+                &self.state
+            }
+
+            /// The entry buffer, to persist.
+            pub fn entries(&self) -> &[u64] {
+                &self.entries
             }
 
             /// Whether the buffers have the right lengths and hold a well-formed log.
@@ -191,13 +248,13 @@ macro_rules! operations {
             }
 
             /// The entries of a listed ledger: the very part of the entry buffer, as stored words.
-            pub fn read_ledger(&self, ledger: u64) -> Result<&[u64], Refusal> {
+            pub fn read_ledger(&self, ledger: LedgerNumber) -> Result<&[u64], Error> {
                 self.as_ref().read_ledger(ledger)
             }
 
             /// Writes the entries of all listed ledgers to the front of the output, each without its ledger number,
             /// and answers how many they are.
-            pub fn read_chain(&self, output: &mut [u64]) -> Result<usize, Refusal> {
+            pub fn read_chain(&self, output: &mut [u64]) -> Result<usize, Error> {
                 self.as_ref().read_chain(output)
             }
         }

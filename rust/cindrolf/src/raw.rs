@@ -1,4 +1,5 @@
 //! The functions of the archive, as include/cindrolf.h declares them. Nothing checks that these declarations match it.
+//! They are public for the comparison alone, which looks at what the safe functions don't hand on.
 
 #[repr(C)]
 pub struct LedgerPart {
@@ -42,6 +43,7 @@ operations! {
 }
 
 unsafe extern "C" {
+    pub fn cindrolf_version() -> u64;
     pub fn cindrolf_well_formed(state: *const u64, state_len: usize, entries: *const u64, entries_len: usize) -> bool;
     pub fn cindrolf_read_ledger(
         state: *const u64,

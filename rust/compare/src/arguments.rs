@@ -3,8 +3,8 @@
 use std::process::ExitCode;
 use std::vec::IntoIter;
 
-/// The options of a program. Where there are none, for help was asked or they are wrong, that is printed and the program
-/// is to end with the status given.
+/// The options of a program. Where there are none, for help was asked or they are wrong, that is printed and the
+/// program is to end with the status given.
 pub fn options<T>(
     program: &str,
     help: &str,

@@ -3,7 +3,7 @@
 use model::{Answer, Step, words};
 use std::ops::Range;
 
-/// The three buffers that calls are lent.
+/// The three buffers of a call.
 #[derive(Clone, Debug, Default, PartialEq, Eq)]
 pub struct Buffers {
     /// The state buffer.
@@ -12,6 +12,24 @@ pub struct Buffers {
     pub entries: Vec<u64>,
     /// The output buffer of read chain.
     pub output: Vec<u64>,
+}
+
+impl Buffers {
+    /// The buffers as a call is lent them.
+    pub fn lend(&mut self) -> Lent<'_> {
+        Lent { state: &mut self.state, entries: &mut self.entries, output: &mut self.output }
+    }
+}
+
+/// The three buffers as a call is lent them.
+#[derive(Debug, PartialEq, Eq)]
+pub struct Lent<'a> {
+    /// The state buffer.
+    pub state: &'a mut [u64],
+    /// The entry buffer.
+    pub entries: &'a mut [u64],
+    /// The output buffer of read chain.
+    pub output: &'a mut [u64],
 }
 
 /// An operation with its arguments.
@@ -32,93 +50,168 @@ pub enum Call {
 /// What a call gave back.
 #[derive(Clone, Debug, PartialEq, Eq)]
 pub enum Outcome {
-    /// The answer of fresh or a step, or any operation's refusal.
+    /// The answer of fresh or a step.
     Answer(Answer),
     /// The check's verdict.
     WellFormed(bool),
-    /// Read ledger's part of the entry buffer; `0..0` wherever it is empty.
-    Part(Range<usize>),
-    /// Read chain's count.
-    Count(usize),
+    /// Read ledger's answer, and its part of the entry buffer: 0 and 0 wherever it is empty.
+    Part {
+        /// Done or a refusal.
+        answer: Answer,
+        /// The index of its first word.
+        start: u64,
+        /// How many words it has.
+        count: u64,
+    },
+    /// Read chain's answer and its count, 0 on a refusal.
+    Count {
+        /// Done or a refusal.
+        answer: Answer,
+        /// How many words it wrote.
+        count: u64,
+    },
+    /// The crate for controllers doesn't hand on what the function below it gave.
+    NotHandedOn(Box<Outcome>),
 }
 
 impl Outcome {
+    /// The answer, where it is one.
+    pub fn answer(&self) -> Option<Answer> {
+        match self {
+            Outcome::Answer(answer) | Outcome::Part { answer, .. } | Outcome::Count { answer, .. } => Some(*answer),
+            Outcome::WellFormed(_) | Outcome::NotHandedOn(_) => None,
+        }
+    }
+
     /// Whether the call may have changed a buffer.
     pub fn changes(&self) -> bool {
-        match self {
-            Outcome::Answer(Answer::Refused(_)) | Outcome::WellFormed(_) | Outcome::Part(_) => false,
-            Outcome::Answer(_) | Outcome::Count(_) => true,
-        }
+        let reads = matches!(self, Outcome::WellFormed(_) | Outcome::Part { .. });
+        !reads && !matches!(self.answer(), Some(Answer::Refused(_)))
     }
 }
 
 /// What is compared with the model: it takes a call and changes the buffers.
-pub type Subject = fn(Call, &mut Buffers) -> Outcome;
-
-fn part(part: Range<usize>) -> Outcome {
-    Outcome::Part(if part.is_empty() { 0..0 } else { part })
-}
-
-fn refused(number: u64) -> Outcome {
-    Outcome::Answer(Answer::Refused(number))
-}
+pub type Subject = fn(Call, &mut Lent) -> Outcome;
 
 /// The model's side.
-pub fn model(call: Call, buffers: &mut Buffers) -> Outcome {
-    let Buffers { state, entries, output } = buffers;
+pub fn model(call: Call, lent: &mut Lent) -> Outcome {
+    let Lent { state, entries, output } = lent;
     match call {
         Call::Fresh(count) => Outcome::Answer(words::fresh(state, entries, count)),
         Call::Step(client, step) => Outcome::Answer(words::step(state, entries, client, step)),
         Call::WellFormed => Outcome::WellFormed(words::well_formed(state, entries)),
-        Call::ReadLedger(ledger) => words::read_ledger(state, entries, ledger).map_or_else(refused, part),
-        Call::ReadChain => words::read_chain(state, entries, output).map_or_else(refused, Outcome::Count),
+        Call::ReadLedger(ledger) => match words::read_ledger(state, entries, ledger) {
+            Ok(part) => model_part(part),
+            Err(number) => Outcome::Part { answer: Answer::Refused(number), start: 0, count: 0 },
+        },
+        Call::ReadChain => match words::read_chain(state, entries, output) {
+            Ok(count) => Outcome::Count { answer: Answer::Done, count: count as u64 },
+            Err(number) => Outcome::Count { answer: Answer::Refused(number), count: 0 },
+        },
     }
+}
+
+fn model_part(part: Range<usize>) -> Outcome {
+    let part = if part.is_empty() { 0..0 } else { part };
+    Outcome::Part { answer: Answer::Done, start: part.start as u64, count: part.len() as u64 }
 }
 
 /// The library's side, through the crate for controllers.
-pub fn library(call: Call, buffers: &mut Buffers) -> Outcome {
-    use cindrolf::{Refusal, calls};
-    let Buffers { state, entries, output } = buffers;
-    let refused = |refusal: Refusal| refused(refusal.number());
-    match call {
-        Call::Fresh(count) => calls::fresh(state, entries, count).map_or_else(refused, answered),
-        Call::Step(client, step) => library_step(state, entries, client, step).map_or_else(refused, answered),
-        Call::WellFormed => Outcome::WellFormed(calls::well_formed(state, entries)),
-        Call::ReadLedger(ledger) => {
-            calls::read_ledger(state, entries, ledger).map_or_else(refused, |found| part(place_of(found, entries)))
-        }
-        Call::ReadChain => calls::read_chain(state, entries, output).map_or_else(refused, Outcome::Count),
-    }
-}
-
-fn library_step(
-    state: &mut [u64],
-    entries: &mut [u64],
-    client: u64,
-    step: Step,
-) -> Result<cindrolf::Answer, cindrolf::Refusal> {
+pub fn library(call: Call, lent: &mut Lent) -> Outcome {
     use cindrolf::calls;
-    match step {
-        Step::Name => calls::name(state, entries, client),
-        Step::Become => calls::become_leader(state, entries, client),
-        Step::Abdicate => calls::abdicate(state, entries, client),
-        Step::Fetch => calls::fetch(state, entries, client),
-        Step::CloseLast => calls::close_last(state, entries, client),
-        Step::Create => calls::create(state, entries, client),
-        Step::Append => calls::append(state, entries, client),
-        Step::Write(value) => calls::write(state, entries, client, value),
-        Step::CloseOwn => calls::close_own(state, entries, client),
+    let Lent { state, entries, .. } = lent;
+    match call {
+        Call::Fresh(count) => Outcome::Answer(calls::fresh(state, entries, count).map_or_else(failed, done)),
+        Call::Step(client, step) => Outcome::Answer(library_step(state, entries, client, step)),
+        Call::WellFormed => Outcome::WellFormed(calls::well_formed(state, entries)),
+        Call::ReadLedger(ledger) => library_ledger(lent, ledger),
+        Call::ReadChain => library_chain(lent),
     }
 }
 
-fn answered(answer: cindrolf::Answer) -> Outcome {
-    Outcome::Answer(match answer {
-        cindrolf::Answer::Done => Answer::Done,
-        cindrolf::Answer::WasClosed => Answer::WasClosed,
-        cindrolf::Answer::Behind => Answer::Behind,
-        cindrolf::Answer::Entry(number) => Answer::Entry(number),
-        other => panic!("the model has no answer {other:?}"),
-    })
+// On a refusal the crate gives no part and no count, so those come from the function below it.
+fn library_ledger(lent: &Lent, ledger: u64) -> Outcome {
+    use cindrolf::{LedgerNumber, calls, raw};
+    let (state, entries) = (&*lent.state, &*lent.entries);
+    // SAFETY: both slices are valid for their lengths, and nothing is changed.
+    let given =
+        unsafe { raw::cindrolf_read_ledger(state.as_ptr(), state.len(), entries.as_ptr(), entries.len(), ledger) };
+    let outcome = Outcome::Part { answer: numbered(given.answer), start: given.start, count: given.count };
+    let handed_on = match calls::read_ledger(state, entries, LedgerNumber(ledger)) {
+        Ok(part) => {
+            let part = place_of(part, entries);
+            Outcome::Part { answer: Answer::Done, start: part.start as u64, count: part.len() as u64 }
+        }
+        Err(error) => Outcome::Part { answer: failed(error), start: given.start, count: given.count },
+    };
+    if outcome == handed_on { outcome } else { Outcome::NotHandedOn(Box::new(outcome)) }
+}
+
+// The second reading writes the same words as the first.
+fn library_chain(lent: &mut Lent) -> Outcome {
+    use cindrolf::{calls, raw};
+    let Lent { state, entries, output } = lent;
+    // SAFETY: the slices are valid for their lengths, and the output, which alone is changed, is exclusive.
+    let given = unsafe {
+        raw::cindrolf_read_chain(
+            state.as_ptr(),
+            state.len(),
+            entries.as_ptr(),
+            entries.len(),
+            output.as_mut_ptr(),
+            output.len(),
+        )
+    };
+    let outcome = Outcome::Count { answer: numbered(given.answer), count: given.count };
+    let handed_on = match calls::read_chain(state, entries, output) {
+        Ok(count) => Outcome::Count { answer: Answer::Done, count: count as u64 },
+        Err(error) => Outcome::Count { answer: failed(error), count: given.count },
+    };
+    if outcome == handed_on { outcome } else { Outcome::NotHandedOn(Box::new(outcome)) }
+}
+
+/// A reader's answer by its number. Readers answer done or a refusal; anything else shows as a difference.
+fn numbered(number: u64) -> Answer {
+    match number {
+        0 => Answer::Done,
+        257..=273 => Answer::Refused(number - 256),
+        _ => Answer::Refused(u64::MAX),
+    }
+}
+
+fn library_step(state: &mut [u64], entries: &mut [u64], client: u64, step: Step) -> Answer {
+    use cindrolf::{CloseLast, Progress, calls};
+    let close_last = |given| match given {
+        CloseLast::Done => Answer::Done,
+        CloseLast::WasClosed => Answer::WasClosed,
+        CloseLast::Behind => Answer::Behind,
+    };
+    let progress = |given| match given {
+        Progress::Done => Answer::Done,
+        Progress::Behind => Answer::Behind,
+    };
+    match step {
+        Step::Name => calls::name(state, entries, client).map_or_else(failed, done),
+        Step::Become => calls::become_leader(state, entries, client).map_or_else(failed, done),
+        Step::Abdicate => calls::abdicate(state, entries, client).map_or_else(failed, done),
+        Step::Fetch => calls::fetch(state, entries, client).map_or_else(failed, done),
+        Step::CloseLast => calls::close_last(state, entries, client).map_or_else(failed, close_last),
+        Step::Create => calls::create(state, entries, client).map_or_else(failed, done),
+        Step::Append => calls::append(state, entries, client).map_or_else(failed, progress),
+        Step::Write(value) => {
+            calls::write(state, entries, client, value).map_or_else(failed, |entry| Answer::Entry(entry.0))
+        }
+        Step::CloseOwn => calls::close_own(state, entries, client).map_or_else(failed, progress),
+    }
+}
+
+fn done((): ()) -> Answer {
+    Answer::Done
+}
+
+/// A refusal by its number. The model has none of the other errors, so any of them shows as a difference.
+fn failed(error: cindrolf::Error) -> Answer {
+    Answer::Refused(error.refusal().map_or(u64::MAX, |refusal| refusal.number()))
 }
 
 /// Where in these words the part lies, by its address: it must be the very part, not a copy.

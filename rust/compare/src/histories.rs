@@ -1,4 +1,4 @@
-//! Random histories from fresh logs, on the library, on the model of the words and on 002's terms.
+//! Random histories from fresh logs, on the library, on the model of the words and on LedgerChaining's terms.
 
 use crate::call::{Buffers, Call, Outcome, Subject};
 use crate::shrink::shorten;
@@ -68,14 +68,21 @@ impl<'a> Run<'a> {
         let outcome = self.sides.call(call).map_err(|difference| difference.to_string())?;
         let agrees = match (call, &outcome) {
             (Call::Step(client, step), Outcome::Answer(answer)) => self.source_agrees(client, step, *answer),
-            (Call::ReadLedger(ledger), Outcome::Part(part)) => {
-                self.source.ledger(ledger).is_some_and(|words| words == self.sides.buffers().entries[part.clone()])
+            (Call::ReadLedger(ledger), Outcome::Part { answer: Answer::Done, start, count }) => {
+                let part = *start as usize..(start + count) as usize;
+                self.source.ledger(ledger).is_some_and(|words| words == self.sides.buffers().entries[part])
             }
             (Call::ReadLedger(ledger), _) => self.source.ledger(ledger).is_none(),
-            (Call::ReadChain, Outcome::Count(count)) => self.sides.buffers().output[..*count] == self.source.chain(),
+            (Call::ReadChain, Outcome::Count { answer: Answer::Done, count }) => {
+                self.sides.buffers().output[..*count as usize] == self.source.chain()
+            }
             (_, outcome) => *outcome == Outcome::WellFormed(true),
         };
-        if agrees { Ok(()) } else { Err(format!("{call:?}: the library gives {outcome:?}, 002 says otherwise\n")) }
+        if agrees {
+            Ok(())
+        } else {
+            Err(format!("{call:?}: the library gives {outcome:?}, LedgerChaining says otherwise\n"))
+        }
     }
 
     fn source_agrees(&mut self, client: u64, step: Step, answer: Answer) -> bool {

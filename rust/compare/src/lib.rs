@@ -1,7 +1,5 @@
 //! Holds the proved library against the model: every call on both, then the answers and every word of every buffer.
 
-#![deny(missing_docs)]
-
 pub mod arguments;
 pub mod buffers;
 pub mod call;

@@ -1,14 +1,62 @@
 //! The two sides of a comparison, which hold equal buffers between calls.
 
-use crate::call::{Buffers, Call, Outcome, Subject, model};
+use crate::call::{Buffers, Call, Lent, Outcome, Subject, model};
 use crate::tally::Tally;
 use std::fmt;
+
+/// Words on either side of each buffer that the subject is lent. The number is odd, so that a lent buffer begins where
+/// no allocation does.
+const AROUND: usize = 17;
+
+/// What the words around a buffer hold: never zero, and no two the same.
+fn guard(index: usize) -> u64 {
+    0xA5C3_0000_5A3C_0000 ^ index as u64
+}
+
+/// A buffer of which the middle is lent. Nothing around it may change.
+#[derive(Default)]
+struct Guarded(Vec<u64>);
+
+impl Guarded {
+    fn set(&mut self, words: &[u64]) {
+        self.0.clear();
+        self.0.extend((0..AROUND).map(guard));
+        self.0.extend(words);
+        self.0.extend((AROUND + words.len()..2 * AROUND + words.len()).map(guard));
+    }
+
+    fn middle(&mut self) -> &mut [u64] {
+        let end = self.0.len() - AROUND;
+        &mut self.0[AROUND..end]
+    }
+
+    /// Whether the middle is these words and nothing around it has changed.
+    fn is(&self, words: &[u64]) -> bool {
+        let (before, rest) = self.0.split_at(AROUND);
+        let (middle, after) = rest.split_at(rest.len() - AROUND);
+        let kept = |words: &[u64], first: usize| words.iter().zip(first..).all(|(&word, index)| word == guard(index));
+        middle == words && kept(before, 0) && kept(after, AROUND + middle.len())
+    }
+
+    /// The words that differ from these, and those around them that have changed: index, word, what it should be.
+    fn different(&self, words: &[u64]) -> impl Iterator<Item = (i64, u64, u64)> {
+        let inside = AROUND..self.0.len() - AROUND;
+        let expected = move |index: usize| if inside.contains(&index) { words[index - AROUND] } else { guard(index) };
+        let all = self.0.iter().enumerate().map(move |(index, &word)| {
+            let place = index as i64 - AROUND as i64;
+            (place, word, expected(index))
+        });
+        all.filter(|(_, word, expected)| word != expected)
+    }
+}
 
 /// The subject's buffers and the model's.
 pub struct Sides {
     subject: Subject,
-    left: Buffers,
-    right: Buffers,
+    state: Guarded,
+    entries: Guarded,
+    output: Guarded,
+    model: Buffers,
     /// What was compared so far.
     pub tally: Tally,
 }
@@ -22,54 +70,64 @@ pub struct Difference {
     pub subject: Outcome,
     /// What the model gave.
     pub model: Outcome,
-    /// Words that differ: buffer, index, the subject's word, the model's.
-    pub words: Vec<(&'static str, usize, u64, u64)>,
+    /// Words that differ: buffer, index, the subject's word, the model's. An index below 0 or past the buffer's end is
+    /// of a word that wasn't lent.
+    pub words: Vec<(&'static str, i64, u64, u64)>,
 }
 
 impl Sides {
     /// Both sides on empty buffers.
     pub fn new(subject: Subject) -> Self {
-        Sides { subject, left: Buffers::default(), right: Buffers::default(), tally: Tally::default() }
+        let (state, entries, output) = Default::default();
+        let mut sides = Sides { subject, state, entries, output, model: Buffers::default(), tally: Tally::default() };
+        sides.set(&Buffers::default());
+        sides
     }
 
     /// Gives both sides these buffers.
     pub fn set(&mut self, buffers: &Buffers) {
-        self.left.clone_from(buffers);
-        self.right.clone_from(buffers);
+        self.state.set(&buffers.state);
+        self.entries.set(&buffers.entries);
+        self.output.set(&buffers.output);
+        self.model.clone_from(buffers);
+    }
+
+    fn lend(&mut self) -> Lent<'_> {
+        Lent { state: self.state.middle(), entries: self.entries.middle(), output: self.output.middle() }
     }
 
     /// Changes both sides' buffers in the same way.
-    pub fn edit(&mut self, edit: impl Fn(&mut Buffers)) {
-        edit(&mut self.left);
-        edit(&mut self.right);
+    pub fn edit(&mut self, edit: impl Fn(&mut Lent)) {
+        edit(&mut self.lend());
+        edit(&mut self.model.lend());
     }
 
     /// The buffers, which are equal.
     pub fn buffers(&self) -> &Buffers {
-        &self.right
+        &self.model
     }
 
-    /// Takes a call on both sides, and compares the answers and every word.
+    /// Takes a call on both sides, and compares what they gave and every word.
     pub fn call(&mut self, call: Call) -> Result<Outcome, Box<Difference>> {
-        let subject = (self.subject)(call, &mut self.left);
-        let model = model(call, &mut self.right);
-        if subject == model && self.left == self.right {
+        let subject = (self.subject)(call, &mut self.lend());
+        let model = model(call, &mut self.model.lend());
+        let Buffers { state, entries, output } = &self.model;
+        if subject == model && self.state.is(state) && self.entries.is(entries) && self.output.is(output) {
             self.tally.count(call, &model);
             return Ok(model);
         }
         Err(Box::new(Difference { call, subject, model, words: self.different_words() }))
     }
 
-    fn different_words(&self) -> Vec<(&'static str, usize, u64, u64)> {
+    fn different_words(&self) -> Vec<(&'static str, i64, u64, u64)> {
         let pairs = [
-            ("state", &self.left.state, &self.right.state),
-            ("entries", &self.left.entries, &self.right.entries),
-            ("output", &self.left.output, &self.right.output),
+            ("state", &self.state, &self.model.state),
+            ("entries", &self.entries, &self.model.entries),
+            ("output", &self.output, &self.model.output),
         ];
         let mut words = vec![];
-        for (name, left, right) in pairs {
-            let both = left.iter().zip(right).enumerate().filter(|(_, (left, right))| left != right);
-            words.extend(both.map(|(index, (&left, &right))| (name, index, left, right)));
+        for (name, subject, model) in pairs {
+            words.extend(subject.different(model).map(|(index, word, expected)| (name, index, word, expected)));
         }
         words
     }
@@ -85,5 +143,28 @@ impl fmt::Display for Difference {
             0 => Ok(()),
             more => writeln!(f, "  and {more} words more"),
         }
+    }
+}
+
+#[cfg(test)]
+mod tests {
+    use super::*;
+
+    // No safe subject reaches the words around its buffers, so they are changed for it here.
+    #[test]
+    fn finds_changes_around_the_buffers() {
+        let buffers = Buffers { state: vec![1; 3], entries: vec![], output: vec![2; 5] };
+        let changed = |change: fn(&mut Sides)| {
+            let mut sides = Sides::new(model);
+            sides.set(&buffers);
+            change(&mut sides);
+            let difference = sides.call(Call::ReadChain).expect_err("a word has changed");
+            difference.words.iter().map(|&(name, index, ..)| (name, index)).collect::<Vec<_>>()
+        };
+        assert_eq!(changed(|sides| sides.state.0[AROUND - 1] = 0), [("state", -1)]);
+        assert_eq!(changed(|sides| sides.state.0[AROUND + 3] = 0), [("state", 3)]);
+        assert_eq!(changed(|sides| sides.entries.0[0] = 0), [("entries", -17)]);
+        assert_eq!(changed(|sides| *sides.output.0.last_mut().unwrap() = 0), [("output", 21)]);
+        assert_eq!(changed(|sides| sides.output.0[AROUND] = 0), [("output", 0)]);
     }
 }

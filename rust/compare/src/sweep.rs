@@ -1,6 +1,6 @@
 //! Every single-bit change of a log, on the check and on a step; and the log as it is, on every operation.
 
-use crate::call::{Buffers, Call, Outcome, Subject};
+use crate::call::{Buffers, Call, Lent, Outcome, Subject};
 use crate::logs::Named;
 use crate::shrink;
 use crate::sides::Sides;
@@ -34,22 +34,22 @@ pub fn changes(
 ) -> Result<(), String> {
     sides.set(&log.buffers);
     for bit in bits {
-        sides.edit(|buffers| flip(buffers, bit));
+        sides.edit(|lent| flip(lent, bit));
         for call in [Call::WellFormed, log.step] {
             match sides.call(call) {
                 Ok(outcome) if outcome.changes() => {
                     sides.set(&log.buffers);
-                    sides.edit(|buffers| flip(buffers, bit));
+                    sides.edit(|lent| flip(lent, bit));
                 }
                 Ok(_) => {}
                 Err(_) => {
                     let mut damaged = log.buffers.clone();
-                    flip(&mut damaged, bit);
+                    flip(&mut damaged.lend(), bit);
                     return Err(report(subject, call, &damaged, log, &describe_bit(&log.buffers, bit)));
                 }
             }
         }
-        sides.edit(|buffers| flip(buffers, bit));
+        sides.edit(|lent| flip(lent, bit));
     }
     Ok(())
 }
@@ -60,11 +60,11 @@ pub fn bits(log: &Named) -> usize {
 }
 
 /// Changes one bit.
-pub fn flip(buffers: &mut Buffers, bit: usize) {
+pub fn flip(lent: &mut Lent, bit: usize) {
     let index = bit / 64;
-    let word = match index.checked_sub(buffers.state.len()) {
-        None => &mut buffers.state[index],
-        Some(entry) => &mut buffers.entries[entry],
+    let word = match index.checked_sub(lent.state.len()) {
+        None => &mut lent.state[index],
+        Some(entry) => &mut lent.entries[entry],
     };
     *word ^= 1 << (bit % 64);
 }

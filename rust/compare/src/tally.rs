@@ -4,7 +4,7 @@ use crate::call::{Call, Outcome};
 use model::{Answer, Step};
 use std::fmt;
 
-/// The operations, in 01's order, each with the answers that it can give: 1 to 17 are refusals.
+/// The operations, in the reference's order, each with the answers that it can give: 1 to 17 are refusals.
 const OPERATIONS: [(&str, &[usize]); 13] = [
     ("fresh", &[DONE, 1, 17]),
     ("name", &[DONE, 1, 2, 3, 4]),
@@ -76,14 +76,14 @@ fn operation(call: Call) -> usize {
 }
 
 fn column(outcome: &Outcome) -> usize {
-    match outcome {
-        Outcome::Answer(Answer::Refused(number)) => *number as usize,
-        Outcome::Answer(Answer::Done) | Outcome::Part(_) | Outcome::Count(_) => DONE,
-        Outcome::Answer(Answer::WasClosed) => WAS_CLOSED,
-        Outcome::Answer(Answer::Behind) => BEHIND,
-        Outcome::Answer(Answer::Entry(_)) => ENTRY,
-        Outcome::WellFormed(true) => YES,
-        Outcome::WellFormed(false) => NO,
+    match (outcome, outcome.answer()) {
+        (_, Some(Answer::Refused(number))) => number as usize,
+        (_, Some(Answer::Done)) => DONE,
+        (_, Some(Answer::WasClosed)) => WAS_CLOSED,
+        (_, Some(Answer::Behind)) => BEHIND,
+        (_, Some(Answer::Entry(_))) => ENTRY,
+        (Outcome::WellFormed(true), None) => YES,
+        (_, None) => NO,
     }
 }
 

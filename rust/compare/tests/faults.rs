@@ -1,6 +1,6 @@
 //! The comparison finds planted faults and makes what shows them small; and a short run meets every answer.
 
-use compare::call::{self, Buffers, Call, Outcome, Subject};
+use compare::call::{self, Call, Lent, Outcome, Subject};
 use compare::sides::Sides;
 use compare::{buffers, histories, logs, sweep};
 use model::layout::{Client, Head, client_index, place_index};
@@ -23,45 +23,50 @@ fn history(report: &str) -> Vec<&str> {
 }
 
 // A likely mistake: the named leader is asked on a write.
-fn refuses_unnamed(call: Call, buffers: &mut Buffers) -> Outcome {
-    let before = buffers.clone();
-    let outcome = call::model(call, buffers);
-    match (call, &outcome) {
-        (Call::Step(client, Step::Write(_)), Outcome::Answer(Answer::Entry(_)))
-            if Head::load(before.state[0]).0.leader != client =>
-        {
-            *buffers = before;
-            Outcome::Answer(Answer::Refused(6))
-        }
-        _ => outcome,
+fn refuses_unnamed(call: Call, lent: &mut Lent) -> Outcome {
+    if let Call::Step(client, Step::Write(_)) = call
+        && Head::load(lent.state[0]).0.leader != client
+        && let Outcome::Answer(Answer::Entry(_)) = on_copies(call, lent)
+    {
+        return Outcome::Answer(Answer::Refused(6));
     }
+    call::model(call, lent)
+}
+
+/// What the model gives, without a change of the buffers.
+fn on_copies(call: Call, lent: &Lent) -> Outcome {
+    let (mut state, mut entries, mut output) = (lent.state.to_vec(), lent.entries.to_vec(), lent.output.to_vec());
+    call::model(call, &mut Lent { state: &mut state, entries: &mut entries, output: &mut output })
 }
 
 // Another: a closer that is behind goes on to create. The answer is right, a word isn't.
-fn behind_goes_on(call: Call, buffers: &mut Buffers) -> Outcome {
-    let outcome = call::model(call, buffers);
+fn behind_goes_on(call: Call, lent: &mut Lent) -> Outcome {
+    let outcome = call::model(call, lent);
     if let (Call::Step(number, Step::CloseLast), Outcome::Answer(Answer::Behind)) = (call, &outcome) {
-        let word = &mut buffers.state[client_index(number)];
+        let word = &mut lent.state[client_index(number)];
         *word = Client { stage: 3, ..Client::load(*word).0 }.word();
     }
     outcome
 }
 
 // The check overlooks one bit of one list place.
-fn overlooks_a_bit(call: Call, buffers: &mut Buffers) -> Outcome {
-    if call != Call::WellFormed || buffers.state.len() != 527 {
-        return call::model(call, buffers);
+fn overlooks_a_bit(call: Call, lent: &mut Lent) -> Outcome {
+    if call != Call::WellFormed || lent.state.len() != 527 {
+        return call::model(call, lent);
     }
-    let mut masked = buffers.clone();
-    masked.state[place_index(9)] &= !1;
-    call::model(call, &mut masked)
+    let place = place_index(9);
+    let word = lent.state[place];
+    lent.state[place] &= !1;
+    let outcome = call::model(call, lent);
+    lent.state[place] = word;
+    outcome
 }
 
 // Read chain stores one word behind its reading.
-fn stray_store(call: Call, buffers: &mut Buffers) -> Outcome {
-    let outcome = call::model(call, buffers);
-    if let Outcome::Count(count) = outcome
-        && let Some(word) = buffers.output.get_mut(count)
+fn stray_store(call: Call, lent: &mut Lent) -> Outcome {
+    let outcome = call::model(call, lent);
+    if let Outcome::Count { answer: Answer::Done, count } = outcome
+        && let Some(word) = lent.output.get_mut(count as usize)
     {
         *word = 0;
     }
@@ -69,10 +74,40 @@ fn stray_store(call: Call, buffers: &mut Buffers) -> Outcome {
 }
 
 // A list place is taken for a ledger number, which shows only on logs with gaps.
-fn fence_by_place(call: Call, buffers: &mut Buffers) -> Outcome {
-    let listed = buffers.state.get(place_index(1)).is_some_and(|word| word >> 56 == 2);
-    match call::model(call, buffers) {
-        Outcome::Part(_) if listed => Outcome::Answer(Answer::Refused(15)),
+fn fence_by_place(call: Call, lent: &mut Lent) -> Outcome {
+    let listed = lent.state.get(place_index(1)).is_some_and(|word| word >> 56 == 2);
+    match call::model(call, lent) {
+        Outcome::Part { .. } if listed => Outcome::Part { answer: Answer::Refused(15), start: 0, count: 0 },
+        outcome => outcome,
+    }
+}
+
+// An empty part lies somewhere, where it should lie at 0.
+fn empty_part_elsewhere(call: Call, lent: &mut Lent) -> Outcome {
+    match call::model(call, lent) {
+        Outcome::Part { answer: Answer::Done, count: 0, .. } => {
+            Outcome::Part { answer: Answer::Done, start: Head::load(lent.state[0]).0.entry_count, count: 0 }
+        }
+        outcome => outcome,
+    }
+}
+
+// A refused reading has a part all the same.
+fn refused_with_a_part(call: Call, lent: &mut Lent) -> Outcome {
+    match call::model(call, lent) {
+        Outcome::Part { answer: Answer::Refused(15), .. } => {
+            Outcome::Part { answer: Answer::Refused(15), start: 0, count: 1 }
+        }
+        outcome => outcome,
+    }
+}
+
+// A reading that is refused for want of room says how much it would have taken.
+fn refused_with_a_count(call: Call, lent: &mut Lent) -> Outcome {
+    match call::model(call, lent) {
+        Outcome::Count { answer: Answer::Refused(16), .. } => {
+            Outcome::Count { answer: Answer::Refused(16), count: lent.output.len() as u64 + 1 }
+        }
         outcome => outcome,
     }
 }
@@ -112,6 +147,16 @@ fn finds_an_overlooked_bit() {
 fn finds_a_stray_store() {
     let report = first(buffers::compare, stray_store, 1000).expect("the fault is found");
     assert!(report.contains("entries: 4096 words, 0 not zero"), "{report}");
+}
+
+#[test]
+fn finds_parts_and_counts_that_should_be_empty() {
+    let report = first(histories::compare, empty_part_elsewhere, 200).expect("the fault is found");
+    assert!(report.contains("Part { answer: Done, start: 0, count: 0 }"), "{report}");
+    let report = first(histories::compare, refused_with_a_part, 100).expect("the fault is found");
+    assert!(report.contains("Part { answer: Refused(15), start: 0, count: 1 }"), "{report}");
+    let report = first(buffers::compare, refused_with_a_count, 1000).expect("the fault is found");
+    assert!(report.contains("the model Count { answer: Refused(16), count: 0 }"), "{report}");
 }
 
 #[test]

@@ -1,11 +1,9 @@
-//! A model of the chained run log, written from the scope paper (01) and the TLA+ specification LedgerChaining (002),
+//! A model of the chained run log, written from the scope of the log and the TLA+ specification LedgerChaining,
 //! and from no code of the library.
 //!
-//! It says everything twice. [`words`] has the operations on buffers of any length and content, with the checks in 01's
-//! order. [`source`] has histories of a fresh log in 002's terms, where each client remembers the whole list. The test
+//! It says everything twice. [`words`] has the operations on buffers of any length and content, with the checks in the reference's
+//! order. [`source`] has histories of a fresh log in LedgerChaining's terms, where each client remembers the whole list. The test
 //! in `tests/` holds the two against each other, on random [`histories`].
-
-#![deny(missing_docs)]
 
 pub mod histories;
 pub mod layout;
@@ -13,7 +11,7 @@ pub mod random;
 pub mod source;
 pub mod words;
 
-/// What an operation answers. A refusal carries 01's number.
+/// What an operation answers. A refusal carries the reference's number.
 #[derive(Clone, Copy, Debug, PartialEq, Eq)]
 pub enum Answer {
     /// The step was taken.

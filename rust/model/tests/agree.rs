@@ -1,4 +1,4 @@
-//! The two halves of the model against each other: 002's terms and 01's words, on random histories; and 01's examples.
+//! The two halves of the model against each other: LedgerChaining's terms and the reference's words, on random histories; and the reference's examples.
 
 use model::histories::Profile;
 use model::layout::{ENTRY_WORDS, STATE_WORDS};
@@ -12,7 +12,7 @@ fn fresh(client_count: u64) -> (Vec<u64>, Vec<u64>) {
     (state, entries)
 }
 
-/// A refusal that 002's own guards explain. 9 is not among them: it never occurs from a fresh log.
+/// A refusal that LedgerChaining's own guards explain. 9 is not among them: it never occurs from a fresh log.
 fn guarded(answer: Answer) -> bool {
     matches!(answer, Answer::Refused(3..=8 | 11 | 12 | 14))
 }
@@ -54,7 +54,7 @@ fn readings_agree(source: &Source, state: &[u64], entries: &[u64]) {
     }
 }
 
-// 01's session.
+// The reference's session.
 #[test]
 fn session() {
     use Answer::{Behind, Done, Entry, Refused};
@@ -84,7 +84,7 @@ fn session() {
     assert_eq!(state[17..19], [0x00C0000000000000, 0x8000000000000000]);
 }
 
-// 01's marked and plain examples of refusals.
+// The reference's examples of refusals.
 #[test]
 fn examples() {
     let (mut state, mut entries) = fresh(3);

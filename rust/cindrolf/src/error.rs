@@ -1,0 +1,176 @@
+//! Refusals, and what else may keep an operation from its answer.
+
+use crate::VERSION;
+use std::fmt;
+
+/// Why an operation gave no answer.
+///
+/// ```
+/// use cindrolf::{Error, Log, Refusal};
+///
+/// fn lead(log: &mut Log, client: u64) -> Result<(), Error> {
+///     log.become_leader(client)?;
+///     log.fetch(client)
+/// }
+///
+/// let mut log = Log::fresh(2)?;
+/// assert_eq!(lead(&mut log, 1), Err(Error::Refused(Refusal::NotNamed)));
+/// assert_eq!(lead(&mut log, 1).unwrap_err().to_string(), "the client is not the named leader (refusal 6)");
+/// # Ok::<(), Error>(())
+/// ```
+#[derive(Clone, Copy, Debug, PartialEq, Eq, Hash)]
+#[non_exhaustive]
+pub enum Error {
+    /// The operation was refused, and no word of any buffer has changed.
+    Refused(Refusal),
+    /// The library gave this number, which means nothing here: the archive is of another version than this crate. What
+    /// it did to the buffers isn't known.
+    UnknownAnswer(u64),
+    /// The archive is of this version, and the crate is written for [`VERSION`](crate::VERSION). Nothing was called.
+    OtherVersion(u64),
+}
+
+impl Error {
+    /// The refusal, where it is one.
+    pub const fn refusal(self) -> Option<Refusal> {
+        match self {
+            Error::Refused(refusal) => Some(refusal),
+            _ => None,
+        }
+    }
+}
+
+impl From<Refusal> for Error {
+    fn from(refusal: Refusal) -> Self {
+        Error::Refused(refusal)
+    }
+}
+
+impl fmt::Display for Error {
+    fn fmt(&self, f: &mut fmt::Formatter<'_>) -> fmt::Result {
+        match self {
+            Error::Refused(refusal) => write!(f, "{refusal} (refusal {})", refusal.number()),
+            Error::UnknownAnswer(number) => {
+                write!(f, "the library answered {number}, which this version of the crate does not know")
+            }
+            Error::OtherVersion(version) => {
+                write!(f, "the library has version {version}, and the crate is written for version {VERSION}")
+            }
+        }
+    }
+}
+
+// A refusal's sentence is in the text above, so there is no further source to print.
+impl std::error::Error for Error {}
+
+macro_rules! refusals {
+    ($($(#[$doc:meta])* $name:ident = $number:literal, $text:literal;)*) => {
+        /// Why an operation was refused. No word of any buffer has changed.
+        #[derive(Clone, Copy, Debug, PartialEq, Eq, Hash, PartialOrd, Ord)]
+        #[non_exhaustive]
+        pub enum Refusal {
+            $($(#[$doc])* $name = $number,)*
+        }
+
+        impl Refusal {
+            /// Every refusal, in the order of their numbers.
+            pub const ALL: &[Refusal] = &[$(Refusal::$name),*];
+
+            /// The refusal with this number.
+            ///
+            /// ```
+            /// use cindrolf::Refusal;
+            /// assert_eq!(Refusal::from_number(12), Some(Refusal::LedgerFenced));
+            /// assert_eq!(Refusal::from_number(0), None);
+            /// ```
+            pub const fn from_number(number: u64) -> Option<Refusal> {
+                match number {
+                    $($number => Some(Refusal::$name),)*
+                    _ => None,
+                }
+            }
+
+            const fn text(self) -> &'static str {
+                match self {
+                    $(Refusal::$name => $text,)*
+                }
+            }
+        }
+    };
+}
+
+refusals! {
+    /// The state buffer hasn't 527 words, or the entry buffer hasn't 4,096.
+    WrongLength = 1, "a buffer has the wrong length";
+    /// The buffers hold no log.
+    NotWellFormed = 2, "the buffers hold no well-formed log";
+    /// The client number isn't below the client count.
+    UnknownClient = 3, "the client number is not below the client count";
+    /// The client is the named leader: it can't be named again, and it can't abdicate.
+    AlreadyNamed = 4, "the client is the named leader";
+    /// The client leads already.
+    AlreadyLeads = 5, "the client leads already";
+    /// The client isn't the named leader, so it can't begin to lead.
+    NotNamed = 6, "the client is not the named leader";
+    /// The client doesn't lead.
+    DoesNotLead = 7, "the client does not lead";
+    /// The client leads, and is at another stage than this step's.
+    OtherStage = 8, "the client is at another stage than this step's";
+    /// What the client remembers can't be. It never occurs on a log that began fresh.
+    ImpossibleMemory = 9, "the client remembers what cannot be";
+    /// All 255 ledger numbers are in use.
+    NoLedgerNumber = 10, "no ledger number is left";
+    /// The value is 2^52 or more.
+    ValueTooWide = 11, "the value is 2^52 or more";
+    /// Another leader has fenced the client's ledger.
+    LedgerFenced = 12, "another leader has fenced the client's ledger";
+    /// All 4,096 entries are in use.
+    LogFull = 13, "the log is full";
+    /// The client's ledger has no entry and isn't fenced, so it isn't closed.
+    LedgerEmpty = 14, "the client's ledger has no entry";
+    /// The ledger isn't in the list.
+    NotListed = 15, "the ledger is not in the list";
+    /// The output buffer is shorter than the reading.
+    OutputTooShort = 16, "the output buffer is shorter than the reading";
+    /// The client count is 0 or above 16.
+    ClientCount = 17, "the client count is not 1 to 16";
+}
+
+impl Refusal {
+    /// The refusal's number, 1 to 17.
+    pub const fn number(self) -> u64 {
+        self as u64
+    }
+}
+
+impl fmt::Display for Refusal {
+    fn fmt(&self, f: &mut fmt::Formatter<'_>) -> fmt::Result {
+        f.write_str(self.text())
+    }
+}
+
+impl std::error::Error for Refusal {}
+
+#[cfg(test)]
+mod tests {
+    use super::*;
+
+    #[test]
+    fn numbers() {
+        assert_eq!(Refusal::ALL.len(), 17);
+        for (number, &refusal) in (1..).zip(Refusal::ALL) {
+            assert_eq!(refusal.number(), number);
+            assert_eq!(Refusal::from_number(number), Some(refusal));
+            assert_eq!(Error::from(refusal).refusal(), Some(refusal));
+        }
+    }
+
+    #[test]
+    fn texts() {
+        assert_eq!(Refusal::LogFull.to_string(), "the log is full");
+        assert_eq!(Error::from(Refusal::LogFull).to_string(), "the log is full (refusal 13)");
+        let other = Error::OtherVersion(2).to_string();
+        assert_eq!(other, "the library has version 2, and the crate is written for version 1");
+        assert!(Error::UnknownAnswer(300).to_string().starts_with("the library answered 300, "));
+    }
+}
