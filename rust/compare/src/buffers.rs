@@ -1,4 +1,4 @@
-//! Buffers of any kind: well formed and from no fresh log, nearly well formed, random, and of wrong lengths.
+//! Buffers of any kind: well formed but unreachable, nearly well formed, random, and of wrong lengths.
 
 use crate::call::{Buffers, Call, Subject};
 use crate::shrink;

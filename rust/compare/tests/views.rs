@@ -1,4 +1,4 @@
-//! The crate's views against the model: on histories in LedgerChaining's terms, and on well-formed buffers from no fresh log.
+//! The crate's views against the model: on histories in LedgerChaining's terms, and on unreachable buffers.
 
 use cindrolf::{EntryNumber, LedgerNumber, ListPlace, Log, LogRef, Refusal, Stage, View};
 use compare::buffers;
