@@ -34,6 +34,9 @@ uint64_t cindrolf_version(void);
 #define CINDROLF_STATE_WORDS 527
 #define CINDROLF_ENTRY_WORDS 4096
 
+/* The stage of a client in a well-formed log, 0 to 5: waiting, fetching, closing the last ledger, creating, appending, writing. */
+#define CINDROLF_STAGE(state, client) ((state)[1 + (client)] >> 60 & 7)
+
 /* What an operation answers. Refusal n is CINDROLF_REFUSED + n, and entry number e is CINDROLF_ENTRY + e. */
 #define CINDROLF_DONE UINT64_C(0)
 #define CINDROLF_WAS_CLOSED UINT64_C(1)
