@@ -1,4 +1,5 @@
 -- `parse_line` meets its contract.
+use native.Mathlib.Omega.{arith}
 use borrow.Author.Needs.{needs}
 use mathlib.Core.Path.{_∙_}
 use Rattle.grammar.specs.GrammarLaws.{line-short, line-no-space, line-write, line-client}
@@ -12,7 +13,7 @@ shared-slice-read-if2 : tie.Need-shared-slice-read-if2
 shared-slice-read-if2 c = search needs
 
 returns-2 : tie.Need-returns-2
-returns-2 c = line-no-space _ (c .if2 .taken)
+returns-2 c = line-no-space _ (omega arith)
 
 shared-slice-read-if3 : tie.Need-shared-slice-read-if3
 shared-slice-read-if3 c = search needs

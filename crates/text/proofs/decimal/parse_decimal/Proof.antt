@@ -48,8 +48,9 @@ sub-if3 c = let r = digit-range _ (sym (c .before .is-digit .ensures) ∙ not-fa
 returns-3 : tie.Need-returns-3 Inv-loop μ-loop
 returns-3 c =
     let h = sym (c .before .before .is-digit .ensures) ∙ not-false _ (c .before .if2 .left) in
+    let r = digit-range _ h in
     let inv = c .before .before .before .before .before .loop .inv in
-    number-large _ _ _ _ (inv .2) (c .before .before .before .before .loop-test .taken) h (c .if3 .taken)
+    number-large _ _ _ _ (inv .2) (c .before .before .before .before .loop-test .taken) h (omega arith)
 
 mul-value : tie.Need-mul-value Inv-loop μ-loop
 mul-value c = let r = digit-range _ (sym (c .before .before .is-digit .ensures) ∙ not-false _ (c .before .if2 .left)) in omega arith

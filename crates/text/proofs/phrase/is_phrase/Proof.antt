@@ -14,7 +14,7 @@ abbrev μ-loop : tie.MeasureT-loop
 μ-loop bytes phrase i₀ i = length phrase - i
 
 returns : tie.Need-returns Inv-loop μ-loop
-returns c = not-same-length _ _ (c .if1 .taken)
+returns c = not-same-length _ _ (omega arith)
 
 loop-holds : tie.Need-loop-holds Inv-loop μ-loop
 loop-holds c = (omega arith, omega arith, refl)
