@@ -6,8 +6,8 @@
  *
  * Buffers of any length and content are answered, and so is every number. A null pointer with length 0 is an empty buffer; as state or
  * entries it gives refusal 1, as every wrong length does. What the caller answers for: any other pointer is not null, is aligned for
- * uint64_t and is valid for as many words as the length beside it says; the buffers of one call do not overlap: state, entries and output
- * are separate pieces of memory; and no other thread uses them during the call.
+ * uint64_t (that to scores for uint16_t) and is valid for as many words or scores as the length beside it says; the buffers of one call do
+ * not overlap: state, entries, output and scores are separate pieces of memory; and no other thread uses them during the call.
  *
  * Rust declares the same functions in an `extern "C"` block, and the two structs as #[repr(C)].
  */
@@ -33,6 +33,10 @@ uint64_t cindrolf_version(void);
 /* The lengths of the two buffers, in words. */
 #define CINDROLF_STATE_WORDS 527
 #define CINDROLF_ENTRY_WORDS 4096
+
+/* The most scores that one write takes, and the highest score. */
+#define CINDROLF_SCORES_LIMIT 4000
+#define CINDROLF_HIGHEST_SCORE 372
 
 /* The stage of a client in a well-formed log, 0 to 5: waiting, fetching, closing the last ledger, creating, appending, writing. */
 #define CINDROLF_STAGE(state, client) ((state)[1 + (client)] >> 60 & 7)
@@ -62,6 +66,8 @@ uint64_t cindrolf_version(void);
 #define CINDROLF_REFUSAL_NOT_LISTED UINT64_C(15)        /* the ledger is not in the list */
 #define CINDROLF_REFUSAL_OUTPUT_TOO_SHORT UINT64_C(16)  /* the output buffer is shorter than the reading */
 #define CINDROLF_REFUSAL_CLIENT_COUNT UINT64_C(17)      /* the client count is 0 or above 16 */
+#define CINDROLF_REFUSAL_SCORE_COUNT UINT64_C(18)       /* there are no scores, or more than 4000 */
+#define CINDROLF_REFUSAL_SCORE_TOO_HIGH UINT64_C(19)    /* a score is above 372 */
 
 /* The parts of an entry's word: ledger number (0 in what cindrolf_read_chain writes), client, and value. */
 static inline uint64_t cindrolf_word_ledger(uint64_t word) { return word >> 56; }
@@ -75,7 +81,7 @@ uint64_t cindrolf_fresh(uint64_t *state, size_t state_length, uint64_t *entries,
 /* Whether the buffers have the right lengths and hold a log: true exactly where no operation gives refusal 1 or 2. It changes nothing. */
 bool cindrolf_well_formed(const uint64_t *state, size_t state_length, const uint64_t *entries, size_t entries_length);
 
-/* The nine steps. Each first gives refusal 1, 2 or 3 where one applies, then those named at the step, in their order. A refusal changes
+/* The steps. Each first gives refusal 1, 2 or 3 where one applies, then those named at the step, in their order. A refusal changes
  * nothing. */
 
 /* The client becomes the named leader: done, or refusal 4. */
@@ -105,6 +111,13 @@ uint64_t cindrolf_append(uint64_t *state, size_t state_length, uint64_t *entries
 /* The leader adds an entry to its ledger: CINDROLF_ENTRY + its number, from 0, or refusal 11, 7, 8, 9, 12 or 13.
  * Who is named leader plays no part. */
 uint64_t cindrolf_write(uint64_t *state, size_t state_length, uint64_t *entries, size_t entries_length, uint64_t client, uint64_t value);
+
+/* The leader adds an entry to its ledger whose value is the sum of the error probabilities of these quality scores, each score in quarters
+ * of a Phred unit and each probability in whole parts of 10^-12: CINDROLF_ENTRY + its number, or refusal 18, 19, 7, 8, 9, 12 or 13.
+ * The scores are lent to be read, and stay as they are. A null pointer with length 0 is a list without scores, which is refused by 18.
+ * A caller that keeps its scores in a wider type tests them before it narrows them: 65541 would become score 5 unseen. */
+uint64_t cindrolf_write_scores(uint64_t *state, size_t state_length, uint64_t *entries, size_t entries_length, uint64_t client,
+                               const uint16_t *scores, size_t scores_length);
 
 /* The leader closes its own ledger, without a fence, and has to create one next: done. If another closed it: behind, and the client stops
  * leading. Or refusal 7, 8, 9 or 14. */

@@ -1,4 +1,5 @@
-/* The version of the library, and null pointers with length 0, which every function takes for an empty buffer. It compiles as C and as C++. */
+/* The version of the library, null pointers with length 0, which every function takes for an empty buffer, and the limits of lent scores.
+ * It compiles as C and as C++. */
 #include "cindrolf.h"
 
 #include <inttypes.h>
@@ -9,6 +10,7 @@
 
 static uint64_t state[CINDROLF_STATE_WORDS];
 static uint64_t entries[CINDROLF_ENTRY_WORDS];
+static uint16_t scores[CINDROLF_SCORES_LIMIT + 1];
 static int wrong = 0;
 
 static void expect(const char *what, uint64_t given, uint64_t expected) {
@@ -42,6 +44,8 @@ static void refuse(uint64_t *s, size_t s_length, uint64_t *e, size_t e_length) {
     for (size_t i = 0; i < sizeof operations / sizeof operations[0]; i++)
         expect(operations[i].name, operations[i].call(s, s_length, e, e_length, 1), WRONG_LENGTH);
     expect("write", cindrolf_write(s, s_length, e, e_length, 0, 7), WRONG_LENGTH);
+    expect("write scores", cindrolf_write_scores(s, s_length, e, e_length, 0, scores, 1), WRONG_LENGTH);
+    expect("write no scores", cindrolf_write_scores(s, s_length, e, e_length, 0, NULL, 0), WRONG_LENGTH);
     expect("well formed", cindrolf_well_formed(s, s_length, e, e_length), false);
     struct cindrolf_ledger_part part = cindrolf_read_ledger(s, s_length, e, e_length, 1);
     expect("read ledger", part.answer, WRONG_LENGTH);
@@ -52,6 +56,41 @@ static void refuse(uint64_t *s, size_t s_length, uint64_t *e, size_t e_length) {
     expect("words that it wrote", chain.count, 0);
     expect("the output", word, 7);
     expect("read chain, no output", cindrolf_read_chain(s, s_length, e, e_length, NULL, 0).answer, WRONG_LENGTH);
+}
+
+/* A write of so many of the scores. Client 0 leads and has its ledger listed, client 1 does not lead, and there is no other. */
+static uint64_t write_scores_by(uint64_t client, const uint16_t *list, size_t count) {
+    return cindrolf_write_scores(state, CINDROLF_STATE_WORDS, entries, CINDROLF_ENTRY_WORDS, client, list, count);
+}
+
+static uint64_t write_scores(const uint16_t *list, size_t count) { return write_scores_by(0, list, count); }
+
+/* The entry that the log has room for next, from these scores, and the value that it has to have. */
+static void write_and_read(const char *what, uint64_t number, size_t count, uint64_t value) {
+    expect(what, write_scores(scores, count), CINDROLF_ENTRY + number);
+    expect(what, cindrolf_word_value(entries[number]), value);
+}
+
+/* From entry 1 on: each limit, and one past it. The scores stay as they are. */
+static void check_scores(void) {
+    expect("no scores", write_scores(NULL, 0), CINDROLF_REFUSED + CINDROLF_REFUSAL_SCORE_COUNT);
+    expect("too many scores", write_scores(scores, CINDROLF_SCORES_LIMIT + 1), CINDROLF_REFUSED + CINDROLF_REFUSAL_SCORE_COUNT);
+    write_and_read("all scores 0", 1, CINDROLF_SCORES_LIMIT, UINT64_C(4000000000000000));
+    write_and_read("score 0", 2, 1, UINT64_C(1000000000000));
+    scores[0] = 40;
+    write_and_read("score 40", 3, 1, UINT64_C(100000000000));
+    scores[0] = CINDROLF_HIGHEST_SCORE;
+    write_and_read("the highest score", 4, 1, 501);
+    scores[CINDROLF_SCORES_LIMIT - 1] = CINDROLF_HIGHEST_SCORE + 1;
+    expect("a score too high", write_scores(scores, CINDROLF_SCORES_LIMIT), CINDROLF_REFUSED + CINDROLF_REFUSAL_SCORE_TOO_HIGH);
+    expect("no scores by client 2", write_scores_by(2, NULL, 0), CINDROLF_REFUSED + CINDROLF_REFUSAL_UNKNOWN_CLIENT);
+    expect("no scores by client 1", write_scores_by(1, NULL, 0), CINDROLF_REFUSED + CINDROLF_REFUSAL_SCORE_COUNT);
+    expect("a score by client 1", write_scores_by(1, scores, 1), CINDROLF_REFUSED + CINDROLF_REFUSAL_DOES_NOT_LEAD);
+    expect("the entry after the refusals", entries[5], 0);
+    for (size_t i = 1; i < CINDROLF_SCORES_LIMIT - 1; i++)
+        expect("a score after the writes", scores[i], 0);
+    expect("the first score", scores[0], CINDROLF_HIGHEST_SCORE);
+    expect("the last score", scores[CINDROLF_SCORES_LIMIT - 1], CINDROLF_HIGHEST_SCORE + 1);
 }
 
 int main(void) {
@@ -79,5 +118,6 @@ int main(void) {
     chain = cindrolf_read_chain(state, CINDROLF_STATE_WORDS, entries, CINDROLF_ENTRY_WORDS, NULL, 0);
     expect("read a chain into no output", chain.answer, CINDROLF_REFUSED + CINDROLF_REFUSAL_OUTPUT_TOO_SHORT);
     expect("its words", chain.count, 0);
+    check_scores();
     return wrong;
 }

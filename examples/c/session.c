@@ -95,6 +95,14 @@ static void check_ledgers(void) {
     expect("words in no part", none.count, 0);
 }
 
+/* The next entry of the new leader, from the quality scores of a read. */
+static void check_scores(void) {
+    const uint16_t scores[] = {0, 40, 372};
+    expect("write scores", cindrolf_write_scores(STATE, ENTRIES, 1, scores, 3), CINDROLF_ENTRY + 2);
+    expect("the sum of their parts", cindrolf_word_value(entries[2]), UINT64_C(1100000000501));
+    expect("write no scores", cindrolf_write_scores(STATE, ENTRIES, 1, scores, 0), CINDROLF_REFUSED + CINDROLF_REFUSAL_SCORE_COUNT);
+}
+
 int main(void) {
     expect("fresh with 17 clients", cindrolf_fresh(STATE, ENTRIES, 17), CINDROLF_REFUSED + CINDROLF_REFUSAL_CLIENT_COUNT);
     expect("well formed before fresh", cindrolf_well_formed(STATE, ENTRIES), false);
@@ -106,6 +114,7 @@ int main(void) {
     }
     print_chain();
     check_ledgers();
+    check_scores();
     expect("abdicate a named leader", cindrolf_abdicate(STATE, ENTRIES, 1), CINDROLF_REFUSED + CINDROLF_REFUSAL_ALREADY_NAMED);
     expect("read chain into one word", cindrolf_read_chain(STATE, ENTRIES, output, 1).answer,
            CINDROLF_REFUSED + CINDROLF_REFUSAL_OUTPUT_TOO_SHORT);

@@ -1,4 +1,4 @@
-// The nine steps.
+// The steps.
 use dispatch::Step;
 ghost use Rattle.chain.specs.Operations.{buffers};
 ghost use Rattle.chain.specs.Steps as kinds;
@@ -69,9 +69,22 @@ pub extern "C" fn cindrolf_write(
     client: u64,
     value: u64,
 ) -> u64
-    ensures { λ r. ⌜ StepCall (by client (kinds.write value)) (buffers (now (state .entry)) (now (entries .entry))) r (now (state .exit)) (now (entries .exit)) ⌝ }
+    ensures { λ r. ⌜ StepCall (by client (kinds.write (kinds.ofValue value))) (buffers (now (state .entry)) (now (entries .entry))) r (now (state .exit)) (now (entries .exit)) ⌝ }
 {
     take(state, entries, Step::Write(client, value))
+}
+
+#[no_mangle]
+pub extern "C" fn cindrolf_write_scores(
+    state: &mut [u64],
+    entries: &mut [u64],
+    client: u64,
+    scores: &[u16],
+) -> u64
+    ensures { λ r. ⌜ StepCall (by client (kinds.write (kinds.ofScores (now (scores .entry))))) (buffers (now (state .entry)) (now (entries .entry))) r (now (state .exit)) (now (entries .exit)) ⌝ }
+{
+    let a = dispatch::scores::write_scores(state, entries, client, scores);
+    crate::number::answer_number(a)
 }
 
 #[no_mangle]

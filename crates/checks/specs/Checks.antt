@@ -1,7 +1,7 @@
 -- Checks in their order, each with the refusal that it gives: the first whose condition holds decides.
 use mathlib.Core.Path.{_≡_, refl, ap, subst, _∙_}
 use mathlib.Core.Bool.{Bool, true, false, not, cond}
-use mathlib.Core.List.{List, [], _∷_}
+use mathlib.Core.List.{List, [], _∷_, _++_}
 use Rattle.checks.specs.Test.{Test, test, Holds, Fails}
 use Rattle.checks.specs.TestLaws.{by-bool, split, false-fails, fails-false}
 
@@ -73,6 +73,10 @@ pub each-selected : {R : Type 0} (P : R → Test → Type 0) (kind : R → Bool)
 each-selected P kind [] p = tt
 each-selected P kind ((r when t) ∷ cs) p = by-bool (kind r) (λ h. rw h (p .0, each-selected P kind cs (p .1)))
     (λ h. rw h (each-selected P kind cs (p .1)))
+
+pub each-after : {R : Type 0} (P : R → Test → Type 0) (cs ds : List (Check R)) → Each P (cs ++ ds) → Each P ds
+each-after P [] ds p = p
+each-after P ((r when t) ∷ cs) ds p = each-after P cs ds (p .1)
 
 each-joined : {R : Type 0} (P : R → Test → Type 0) (kind : R → Bool) (cs : List (Check R)) → Each P (select kind cs)
     → Each P (others kind cs) → Each P cs

@@ -90,10 +90,15 @@ pub fn client_counts(model: &mut Model, state: &mut State, entries: &mut Entries
     comparison::buffers::compare_buffers(model, state, entries);
 }
 
-// The last ledger number that there is, and one more. Ledger 1 is listed after the session's line 4; each later one takes four steps.
-pub fn last_ledger(model: &mut Model, state: &mut State, entries: &mut Entries) {
+// One client, whose ledger 1 is listed after the session's line 4.
+pub fn list_a_ledger(model: &mut Model, state: &mut State, entries: &mut Entries) {
     begin(model, state, entries, 1);
     play(model, state, entries, SESSION, 0, 4);
+}
+
+// The last ledger number that there is, and one more. After ledger 1, each takes four steps.
+pub fn last_ledger(model: &mut Model, state: &mut State, entries: &mut Entries) {
+    list_a_ledger(model, state, entries);
     let last = play(model, state, entries, LEDGERS, 0, 1015);
     say_line(b"create at 255", last);
     let more = play(model, state, entries, LEDGERS, 1015, 1019);
@@ -102,8 +107,7 @@ pub fn last_ledger(model: &mut Model, state: &mut State, entries: &mut Entries) 
 
 // The last entry that there is room for, and one more.
 pub fn last_entry(model: &mut Model, state: &mut State, entries: &mut Entries) {
-    begin(model, state, entries, 1);
-    play(model, state, entries, SESSION, 0, 4);
+    list_a_ledger(model, state, entries);
     let last = play(model, state, entries, ENTRIES, 0, 4096);
     say_line(b"last entry", last);
     let more = play(model, state, entries, ENTRIES, 4096, 4097);

@@ -3,6 +3,7 @@ mod beside;
 mod examples;
 mod readings;
 mod say;
+mod scores;
 mod script;
 
 fn main() {
@@ -18,5 +19,6 @@ fn main() {
     examples::last_ledger(&mut model, &mut state, &mut entries);
     examples::last_entry(&mut model, &mut state, &mut entries);
     readings::long_reading(&state, &entries);
+    scores::scores(&mut model, &mut state, &mut entries);
     say::say_difference(&model);
 }

@@ -1,14 +1,16 @@
-//! What a write, the check and a reading cost, beside plain Rust, in one run. See `--help`.
+//! What a write, the check, a reading and a sum of scores cost, beside plain Rust, in one run. See `--help`.
 
 mod checks;
 mod measure;
 mod plot;
+mod sums;
 
 use cindrolf::calls;
 use compare::arguments;
 use compare::call::Buffers;
 use compare::logs::chain;
-use measure::{Candidate, Times, interleaved};
+use measure::{Candidate, Times, compared, interleaved};
+use model::random::Random;
 use model::{Step, words};
 use plot::{Line, Panel};
 use std::hint::black_box;
@@ -17,7 +19,7 @@ use std::process::ExitCode;
 use std::time::Duration;
 
 const HELP: &str = "\
-Times a write, the check and a reading of the proved library beside plain Rust, in turn.
+Times a write, the check, a reading and a sum of scores of the proved library beside plain Rust, in turn.
 
   --rounds N     rounds for each table (default 201)
   --plot FILE    where the plot of cost against entries and ledgers goes (default target/bench/cost.svg)
@@ -112,11 +114,38 @@ fn reads(log: &Buffers) -> Vec<Candidate<'_>> {
     ]
 }
 
+/// The sum of 4,000 scores. The library's is its write of them, less its write of their sum.
+fn sums_of_scores(log: &Buffers, rounds: usize) -> Vec<Times> {
+    let mut random = Random::new(1);
+    let scores: Vec<u16> = (0..4_000).map(|_| random.below(373) as u16).collect();
+    let (scores, parts) = (&scores[..], &sums::parts());
+    let sum = sums::by_loop(parts, scores).expect("they can be written");
+    assert!(calls::write_scores(&mut log.state.clone(), &mut log.entries.clone(), 0, scores).is_ok());
+    let candidates = vec![
+        write("library", log, |state, entries| calls::write_scores(state, entries, 0, black_box(scores))),
+        Candidate::new("idiomatic loop", || {
+            black_box(sums::by_loop(black_box(parts), black_box(scores)));
+        }),
+        Candidate::new("idiomatic iterator", || {
+            black_box(sums::by_iterator(black_box(parts), black_box(scores)));
+        }),
+        Candidate::new("model", || {
+            let _ = black_box(model::scores::sum(black_box(scores)));
+        }),
+        write("write", log, |state, entries| calls::write(state, entries, 0, black_box(sum))),
+    ];
+    let mut taken = interleaved(candidates, rounds, SLICE);
+    let write = taken.pop().expect("it is the last");
+    let library = taken.remove(0).less(&write);
+    taken.insert(0, library);
+    compared(&taken)
+}
+
 fn print(log: &str, operation: &str, times: &[Times]) {
     for each in times {
         let (time, ratio) = (each.nanoseconds, each.ratio);
         println!(
-            "{log:<26} {operation:<10} {:<18} {:>9.1} ({:>8.1} .. {:>8.1})   {:>7.2} ({:>6.2} .. {:>6.2})",
+            "{log:<26} {operation:<11} {:<18} {:>9.1} ({:>8.1} .. {:>8.1})   {:>7.2} ({:>6.2} .. {:>6.2})",
             each.name, time.median, time.low, time.high, ratio.median, ratio.low, ratio.high
         );
     }
@@ -135,7 +164,7 @@ fn tables(rounds: usize) {
         "Median and quartiles over {rounds} rounds. The ratio is the library's time divided by the row's, round by round."
     );
     println!(
-        "{:<26} {:<10} {:<18} {:>32}   {:>25}",
+        "{:<26} {:<11} {:<18} {:>32}   {:>25}",
         "log", "operation", "candidate", "ns a call (quartiles)", "ratio (quartiles)"
     );
     let logs = [
@@ -144,12 +173,14 @@ fn tables(rounds: usize) {
         ("full", chain(16, 255, 4095), chain(16, 255, 4096)),
     ];
     for (name, to_write, to_read) in &logs {
-        print(name, "write", &interleaved(writes(to_write), rounds, SLICE));
-        print(name, "check", &interleaved(all_checks(to_read), rounds, SLICE));
-        print(name, "read chain", &interleaved(reads(to_read), rounds, SLICE));
+        print(name, "write", &compared(&interleaved(writes(to_write), rounds, SLICE)));
+        print(name, "check", &compared(&interleaved(all_checks(to_read), rounds, SLICE)));
+        print(name, "read chain", &compared(&interleaved(reads(to_read), rounds, SLICE)));
     }
+    print("empty", "4000 scores", &sums_of_scores(&logs[0].1, rounds));
     println!(
-        "On the full log the write is the one that fills it, entry 4,095. Load after: {}.",
+        "On the full log the write is the one that fills it, entry 4,095. The library's sum of 4,000 scores is what its \
+         write of them takes more than its write of their sum, round by round. Load after: {}.",
         about("/proc/loadavg", "")
     );
 }
@@ -166,7 +197,7 @@ fn grow(title: &'static str, steps: &[u64], rounds: usize, log: impl Fn(u64) -> 
             check("branch-free check", &log, checks::branch_free),
             check("or over the words", &log, checks::limit),
         ];
-        for (index, times) in interleaved(candidates, rounds, SLICE).iter().enumerate() {
+        for (index, times) in compared(&interleaved(candidates, rounds, SLICE)).iter().enumerate() {
             if index == lines.len() {
                 lines.push(Line { name: times.name, points: vec![] });
             }

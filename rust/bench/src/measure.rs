@@ -38,6 +38,22 @@ impl Spread {
     }
 }
 
+/// What a candidate took in each round.
+pub struct Taken {
+    /// What it is.
+    pub name: &'static str,
+    /// Nanoseconds for one.
+    pub nanoseconds: Vec<f64>,
+}
+
+impl Taken {
+    /// What is left, round by round, when another's time is taken away.
+    pub fn less(mut self, other: &Taken) -> Taken {
+        self.nanoseconds.iter_mut().zip(&other.nanoseconds).for_each(|(time, other)| *time -= other);
+        self
+    }
+}
+
 /// A candidate's times.
 pub struct Times {
     /// What it is.
@@ -69,23 +85,28 @@ fn order(round: usize, count: usize) -> impl Iterator<Item = usize> {
 }
 
 /// Times the candidates in turn, for so many rounds of one slice each.
-pub fn interleaved(mut candidates: Vec<Candidate>, rounds: usize, slice: Duration) -> Vec<Times> {
+pub fn interleaved(mut candidates: Vec<Candidate>, rounds: usize, slice: Duration) -> Vec<Taken> {
     let times: Vec<u32> = candidates.iter_mut().map(|candidate| calibrate(candidate, slice)).collect();
-    let mut taken = vec![vec![]; candidates.len()];
+    let mut taken: Vec<Taken> =
+        candidates.iter().map(|candidate| Taken { name: candidate.name, nanoseconds: vec![] }).collect();
     for round in 0..rounds {
         for index in order(round, candidates.len()) {
             let nanoseconds = time(&mut candidates[index], times[index]).as_nanos() as f64;
-            taken[index].push(nanoseconds / times[index] as f64);
+            taken[index].nanoseconds.push(nanoseconds / times[index] as f64);
         }
     }
-    let ratio = |other: &Vec<f64>| taken[0].iter().zip(other).map(|(first, other)| first / other).collect();
-    let both = candidates.iter().zip(&taken);
-    both.map(|(candidate, taken)| Times {
-        name: candidate.name,
-        nanoseconds: Spread::of(taken.clone()),
-        ratio: Spread::of(ratio(taken)),
-    })
-    .collect()
+    taken
+}
+
+/// The spread of what was taken over the rounds, and of the ratios within each.
+pub fn compared(taken: &[Taken]) -> Vec<Times> {
+    let ratio = |other: &[f64]| taken[0].nanoseconds.iter().zip(other).map(|(first, other)| first / other).collect();
+    let times = |each: &Taken| Times {
+        name: each.name,
+        nanoseconds: Spread::of(each.nanoseconds.clone()),
+        ratio: Spread::of(ratio(&each.nanoseconds)),
+    };
+    taken.iter().map(times).collect()
 }
 
 #[cfg(test)]
@@ -96,6 +117,15 @@ mod tests {
     fn each_goes_first_in_its_turn() {
         let orders: Vec<Vec<usize>> = (0..4).map(|round| order(round, 3).collect()).collect();
         assert_eq!(orders, [[0, 1, 2], [1, 2, 0], [2, 0, 1], [0, 1, 2]]);
+    }
+
+    #[test]
+    fn differences_and_ratios_are_taken_within_a_round() {
+        let taken = |nanoseconds: &[f64]| Taken { name: "", nanoseconds: nanoseconds.to_vec() };
+        let left = taken(&[5.0, 9.0, 7.0]).less(&taken(&[1.0, 5.0, 1.0]));
+        assert_eq!(left.nanoseconds, [4.0, 4.0, 6.0]);
+        let times = compared(&[left, taken(&[2.0, 4.0, 1.0])]);
+        assert_eq!(times[1].ratio, Spread { low: 2.0, median: 2.0, high: 6.0 });
     }
 
     #[test]

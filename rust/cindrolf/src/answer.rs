@@ -96,7 +96,7 @@ mod tests {
     // A number is unknown to an operation that can't answer it, even where another operation can.
     #[test]
     fn unknown_numbers() {
-        for number in [3, 255, 256, 256 + 18, 65535] {
+        for number in [3, 255, 256, 256 + 20, 65535] {
             let unknown = Error::UnknownAnswer(number);
             assert_eq!(done(number), Err(unknown));
             assert_eq!(close_last(number), Err(unknown));

@@ -11,8 +11,8 @@
 //! # Ok::<(), Error>(())
 //! ```
 //!
-//! The unsafe blocks below are sound for one reason. The library reads and writes only the words that it is lent by
-//! pointer and length, keeps no pointer, and answers every content. The slices give it pointers that are aligned, not
+//! The unsafe blocks below are sound for one reason. The library reads and writes only the words and scores that it is
+//! lent by pointer and length, keeps no pointer, and answers every content. The slices give it pointers that are aligned, not
 //! null and valid for their lengths. A `&mut` slice is lent to nobody else meanwhile, so what the library changes
 //! overlaps nothing. Each block's comment adds what is special to it.
 
@@ -80,6 +80,24 @@ operation! {
 operation! {
     /// The client closes its own ledger.
     close_own(client), cindrolf_close_own, answer::progress => Progress
+}
+
+/// The client adds an entry to its ledger whose value is the sum of the parts of these scores, and is answered the
+/// entry's number. The scores may be any numbers, and any number of them.
+pub fn write_scores(state: &mut [u64], entries: &mut [u64], client: u64, scores: &[u16]) -> Result<EntryNumber, Error> {
+    // SAFETY: the state and the entries are exclusive, the scores are only read, and the client is any number.
+    let number = unsafe {
+        raw::cindrolf_write_scores(
+            state.as_mut_ptr(),
+            state.len(),
+            entries.as_mut_ptr(),
+            entries.len(),
+            client,
+            scores.as_ptr(),
+            scores.len(),
+        )
+    };
+    answer::entry(number)
 }
 
 /// Whether the buffers have the right lengths and hold a well-formed log.

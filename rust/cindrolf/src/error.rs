@@ -134,10 +134,14 @@ refusals! {
     OutputTooShort = 16, "the output buffer is shorter than the reading";
     /// The client count is 0 or above 16.
     ClientCount = 17, "the client count is not 1 to 16";
+    /// There are no scores, or more than 4,000.
+    ScoreCount = 18, "the number of scores is not 1 to 4,000";
+    /// A score is above 372.
+    ScoreTooHigh = 19, "a score is above 372";
 }
 
 impl Refusal {
-    /// The refusal's number, 1 to 17.
+    /// The refusal's number, 1 to 19.
     pub const fn number(self) -> u64 {
         self as u64
     }
@@ -157,7 +161,7 @@ mod tests {
 
     #[test]
     fn numbers() {
-        assert_eq!(Refusal::ALL.len(), 17);
+        assert_eq!(Refusal::ALL.len(), 19);
         for (number, &refusal) in (1..).zip(Refusal::ALL) {
             assert_eq!(refusal.number(), number);
             assert_eq!(Refusal::from_number(number), Some(refusal));

@@ -36,6 +36,23 @@
 //! assert_eq!(chain, [(0, 7), (1, 9)]);
 //! # Ok::<(), Error>(())
 //! ```
+//!
+//! An entry from quality scores, in quarters of a Phred unit: its value is the sum of their error probabilities, each in
+//! whole parts of 10^-12.
+//!
+//! ```
+//! use cindrolf::{EntryNumber, Error, Log, Refusal, value_of};
+//!
+//! let mut log = Log::fresh(1)?;
+//! log.become_leader(0)?;
+//! log.fetch(0)?;
+//! log.create(0)?;
+//! let _ = log.append(0)?;
+//! assert_eq!(log.write_scores(0, &[40, 40, 372])?, EntryNumber(0));
+//! assert_eq!(value_of(log.entries()[0]), 200_000_000_501);
+//! assert_eq!(log.write_scores(0, &[40, 373]), Err(Error::Refused(Refusal::ScoreTooHigh)));
+//! # Ok::<(), Error>(())
+//! ```
 
 mod answer;
 pub mod calls;
@@ -60,6 +77,10 @@ pub const ENTRY_WORDS: usize = 4096;
 pub const MAX_CLIENTS: u64 = 16;
 /// The largest value that an entry holds.
 pub const MAX_VALUE: u64 = (1 << 52) - 1;
+/// The most scores that one write takes.
+pub const SCORES_LIMIT: usize = 4000;
+/// The highest score.
+pub const HIGHEST_SCORE: u16 = 372;
 
 /// The ledger number in an entry's word. The words that read chain writes have none.
 pub const fn ledger_of(word: u64) -> Option<LedgerNumber> {

@@ -226,6 +226,13 @@ macro_rules! operations {
                 calls::write(&mut self.state, &mut self.entries, client, value)
             }
 
+            /// The client adds an entry to its ledger whose value is the sum of the parts of these scores, and is
+            /// answered the entry's number. There are 1 to [`SCORES_LIMIT`](crate::SCORES_LIMIT) scores, none above
+            /// [`HIGHEST_SCORE`](crate::HIGHEST_SCORE); of any others a refusal says so.
+            pub fn write_scores(&mut self, client: u64, scores: &[u16]) -> Result<EntryNumber, Error> {
+                calls::write_scores(&mut self.state, &mut self.entries, client, scores)
+            }
+
             /// The client closes its own ledger, without a fence. It creates one next. When it is behind it no longer
             /// leads.
             pub fn close_own(&mut self, client: u64) -> Result<Progress, Error> {

@@ -44,6 +44,15 @@ operations! {
 
 unsafe extern "C" {
     pub fn cindrolf_version() -> u64;
+    pub fn cindrolf_write_scores(
+        state: *mut u64,
+        state_len: usize,
+        entries: *mut u64,
+        entries_len: usize,
+        client: u64,
+        scores: *const u16,
+        scores_len: usize,
+    ) -> u64;
     pub fn cindrolf_well_formed(state: *const u64, state_len: usize, entries: *const u64, entries_len: usize) -> bool;
     pub fn cindrolf_read_ledger(
         state: *const u64,

@@ -1,7 +1,7 @@
 //! The reference's examples through the crate, on the proved library.
 
 use cindrolf::{CloseLast, ENTRY_WORDS, EntryNumber, Error, LedgerNumber, Log, LogMut, Progress, Refusal};
-use cindrolf::{STATE_WORDS, calls, ledger_of};
+use cindrolf::{HIGHEST_SCORE, SCORES_LIMIT, STATE_WORDS, calls, ledger_of, value_of};
 
 fn refused<T>(refusal: Refusal) -> Result<T, Error> {
     Err(Error::Refused(refusal))
@@ -73,6 +73,45 @@ fn borrowed() {
     assert_eq!((log.state().len(), log.entries().len()), (STATE_WORDS, ENTRY_WORDS));
     let read = log.as_ref();
     assert!(std::ptr::eq(read.state(), log.state()) && std::ptr::eq(read.entries(), log.entries()));
+}
+
+#[test]
+fn scores() {
+    let written = |scores: &[u16]| {
+        let mut log = writing(1);
+        assert_eq!(log.write_scores(0, scores), Ok(EntryNumber(0)));
+        value_of(log.entries()[0])
+    };
+    assert_eq!(written(&[0]), 1_000_000_000_000);
+    assert_eq!(written(&[40]), 100_000_000_000);
+    assert_eq!(written(&[HIGHEST_SCORE]), 501);
+    assert_eq!(written(&[0, 40, 372, 40]), 1_200_000_000_501);
+    assert_eq!(written(&[0; SCORES_LIMIT]), 4_000_000_000_000_000);
+    assert_eq!(written(&[372; SCORES_LIMIT]), 2_004_000);
+}
+
+// Those of the scores stand after the client's number, and before its lead.
+#[test]
+fn refused_scores() {
+    let mut log = writing(3);
+    let before = log.clone();
+    assert_eq!(log.write_scores(3, &[]), refused(Refusal::UnknownClient));
+    for client in [0, 1] {
+        assert_eq!(log.write_scores(client, &[]), refused(Refusal::ScoreCount));
+        assert_eq!(log.write_scores(client, &[0; SCORES_LIMIT + 1]), refused(Refusal::ScoreCount));
+        assert_eq!(log.write_scores(client, &[373; SCORES_LIMIT + 1]), refused(Refusal::ScoreCount));
+        assert_eq!(log.write_scores(client, &[HIGHEST_SCORE + 1]), refused(Refusal::ScoreTooHigh));
+        let mut last = [0; SCORES_LIMIT];
+        last[SCORES_LIMIT - 1] = u16::MAX;
+        assert_eq!(log.write_scores(client, &last), refused(Refusal::ScoreTooHigh));
+    }
+    assert_eq!(log.write_scores(1, &[0]), refused(Refusal::DoesNotLead));
+    assert_eq!(log, before);
+    assert_eq!(calls::write_scores(&mut [], &mut [], 3, &[]), refused(Refusal::WrongLength));
+    assert_eq!(
+        calls::write_scores(&mut [0; STATE_WORDS], &mut [0; ENTRY_WORDS], 3, &[]),
+        refused(Refusal::NotWellFormed)
+    );
 }
 
 // Two leaders race: each answer that is neither done nor a refusal.

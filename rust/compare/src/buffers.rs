@@ -3,7 +3,7 @@
 use crate::call::{Buffers, Call, Subject};
 use crate::shrink;
 use crate::sides::Sides;
-use model::histories::{any_client, any_value};
+use model::histories::{any_client, with_any_input};
 use model::layout::{Client, ENTRY_WORDS, Entry, Head, Ledger, NONE, Place, STATE_WORDS, client_index};
 use model::random::Random;
 use model::{Step, words};
@@ -30,15 +30,12 @@ pub fn compare(subject: Subject, sides: &mut Sides, random: &mut Random) -> Resu
 fn calls(random: &mut Random, buffers: &Buffers) -> Vec<Call> {
     let head = Head::load(buffers.state.first().copied().unwrap_or(0)).0;
     let mut calls = vec![Call::WellFormed, Call::ReadChain, Call::ReadChain];
-    for (index, mut step) in Step::ALL.into_iter().enumerate() {
-        if let Step::Write(value) = &mut step {
-            *value = any_value(random);
-        }
+    for kind in Step::ALL {
+        let step = with_any_input(random, kind);
         calls.push(Call::Step(any_client(random, head.client_count), step));
-        let stage = [0, 0, 0, 1, 2, 3, 4, 5, 5][index];
         let fits = |client: &u64| {
             let word = buffers.state.get(client_index(*client)).copied().unwrap_or(0);
-            Client::load(word).0.stage == stage
+            Client::load(word).0.stage == stage(kind)
         };
         let ready: Vec<u64> = (0..head.client_count.min(16)).filter(fits).collect();
         if !ready.is_empty() {
@@ -50,6 +47,18 @@ fn calls(random: &mut Random, buffers: &Buffers) -> Vec<Call> {
         calls.push(Call::Fresh(any_count(random)));
     }
     calls
+}
+
+/// The stage at which a client can take the step.
+fn stage(step: Step) -> u64 {
+    match step {
+        Step::Name | Step::Become | Step::Abdicate => 0,
+        Step::Fetch => 1,
+        Step::CloseLast => 2,
+        Step::Create => 3,
+        Step::Append => 4,
+        Step::Write(_) | Step::WriteScores(_) | Step::CloseOwn => 5,
+    }
 }
 
 fn any_ledger(random: &mut Random, head: &Head, buffers: &Buffers) -> u64 {

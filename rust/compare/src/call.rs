@@ -1,6 +1,8 @@
 //! One call of an operation, as the library and the model take it.
 
 use model::{Answer, Step, words};
+use std::fmt;
+use std::hint::black_box;
 use std::ops::Range;
 
 /// The three buffers of a call.
@@ -45,6 +47,18 @@ pub enum Call {
     ReadLedger(u64),
     /// Read chain.
     ReadChain,
+}
+
+/// As a report has it: a long list of scores by its ends and its length.
+impl fmt::Display for Call {
+    fn fmt(&self, f: &mut fmt::Formatter<'_>) -> fmt::Result {
+        match self {
+            Call::Step(client, Step::WriteScores(scores @ [a, b, .., y, z])) if scores.len() > 8 => {
+                write!(f, "Step({client}, WriteScores([{a}, {b}, .. {y}, {z}]), {} scores)", scores.len())
+            }
+            call => write!(f, "{call:?}"),
+        }
+    }
 }
 
 /// What a call gave back.
@@ -174,7 +188,7 @@ fn library_chain(lent: &mut Lent) -> Outcome {
 fn numbered(number: u64) -> Answer {
     match number {
         0 => Answer::Done,
-        257..=273 => Answer::Refused(number - 256),
+        257..=275 => Answer::Refused(number - 256),
         _ => Answer::Refused(u64::MAX),
     }
 }
@@ -201,8 +215,22 @@ fn library_step(state: &mut [u64], entries: &mut [u64], client: u64, step: Step)
         Step::Write(value) => {
             calls::write(state, entries, client, value).map_or_else(failed, |entry| Answer::Entry(entry.0))
         }
+        Step::WriteScores(scores) => with_scores(scores, |scores| {
+            calls::write_scores(state, entries, client, scores).map_or_else(failed, |entry| Answer::Entry(entry.0))
+        }),
         Step::CloseOwn => calls::close_own(state, entries, client).map_or_else(failed, progress),
     }
+}
+
+/// Lends the scores from memory where those around them are too high, so that one read too many shows. They must stay
+/// as they were, and so must those around them.
+fn with_scores(scores: &[u16], call: impl FnOnce(&mut [u16]) -> Answer) -> Answer {
+    let around = [u16::MAX; 3];
+    let surrounded = [&around, scores, &around].concat();
+    let mut lent = surrounded.clone();
+    // What is lent to be read is taken to stay as it is; the black boxes have it looked at all the same.
+    let answer = call(&mut black_box(&mut lent)[around.len()..][..scores.len()]);
+    if *black_box(&lent) == surrounded { answer } else { Answer::Refused(u64::MAX) }
 }
 
 fn done((): ()) -> Answer {
@@ -218,4 +246,19 @@ fn failed(error: cindrolf::Error) -> Answer {
 fn place_of(part: &[u64], words: &[u64]) -> Range<usize> {
     let start = (part.as_ptr().addr() - words.as_ptr().addr()) / size_of::<u64>();
     start..start + part.len()
+}
+
+#[cfg(test)]
+mod tests {
+    use super::*;
+
+    #[test]
+    fn finds_a_changed_score() {
+        assert_eq!(with_scores(&[7, 8], |_| Answer::Done), Answer::Done);
+        let changed = with_scores(&[7, 8], |scores| {
+            scores[1] = 9;
+            Answer::Done
+        });
+        assert_eq!(changed, Answer::Refused(u64::MAX));
+    }
 }

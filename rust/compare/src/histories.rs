@@ -1,7 +1,7 @@
 //! Random histories from fresh logs, on the library, on the model of the words and on LedgerChaining's terms.
 
 use crate::call::{Buffers, Call, Outcome, Subject};
-use crate::shrink::shorten;
+use crate::shrink::{shorten, with_fewer_scores};
 use crate::sides::Sides;
 use model::histories::Profile;
 use model::layout::{ENTRY_WORDS, STATE_WORDS};
@@ -13,7 +13,7 @@ use std::fmt::Write;
 /// Steps of the longest history: enough to reach both limits.
 const LONGEST: u64 = 6_000;
 
-/// A history ends after so many steps that a limit turned away.
+/// A history ends after so many steps for which the log had no ledger number or no room left.
 const MOST_AT_LIMIT: u64 = 100;
 
 /// A fresh log and what comes after it.
@@ -81,7 +81,7 @@ impl<'a> Run<'a> {
         if agrees {
             Ok(())
         } else {
-            Err(format!("{call:?}: the library gives {outcome:?}, LedgerChaining says otherwise\n"))
+            Err(format!("{call}: the library gives {outcome:?}, LedgerChaining says otherwise\n"))
         }
     }
 
@@ -89,10 +89,10 @@ impl<'a> Run<'a> {
         let answers = match self.source.step(client, step) {
             Taken::Accepted(expected) => answer == expected,
             Taken::Limit(number) => {
-                self.at_limit += 1;
+                self.at_limit += u64::from(matches!(number, 10 | 13));
                 answer == Answer::Refused(number)
             }
-            Taken::Forbidden => return matches!(answer, Answer::Refused(3..=8 | 11 | 12 | 14)),
+            Taken::Forbidden => return matches!(answer, Answer::Refused(3..=8 | 11 | 12 | 14 | 18 | 19)),
         };
         let (state, entries) = self.source.buffers();
         answers && state == self.sides.buffers().state && entries == self.sides.buffers().entries
@@ -110,13 +110,18 @@ fn failure(subject: Subject, client_count: u64, calls: &[Call]) -> Option<String
 }
 
 fn report(subject: Subject, history: &History, text: String) -> String {
-    let calls = shorten(&history.calls, |calls| failure(subject, history.client_count, calls).is_some());
+    let fails = |calls: &[Call]| failure(subject, history.client_count, calls).is_some();
+    let mut calls = shorten(&history.calls, fails);
+    for index in 0..calls.len() {
+        let fails_with = |call| fails(&[&calls[..index], &[call], &calls[index + 1..]].concat());
+        calls[index] = with_fewer_scores(calls[index], fails_with);
+    }
     let fewest = (1..history.client_count).find(|&count| failure(subject, count, &calls).is_some());
     let client_count = fewest.unwrap_or(history.client_count);
     let text = failure(subject, client_count, &calls).unwrap_or(text);
     let mut report = format!("{text}The shortest history found that shows it:\n  Fresh({client_count})\n");
     for call in calls {
-        let _ = writeln!(report, "  {call:?}");
+        let _ = writeln!(report, "  {call}");
     }
     report
 }

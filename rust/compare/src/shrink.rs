@@ -2,6 +2,7 @@
 
 use crate::call::{Buffers, Call, Subject};
 use crate::sides::{Difference, Sides};
+use model::Step;
 use model::layout::{ENTRY_WORDS, Head, STATE_WORDS};
 use std::fmt::Write;
 
@@ -26,6 +27,21 @@ pub fn shorten<T: Clone>(list: &[T], fails: impl Fn(&[T]) -> bool) -> Vec<T> {
         }
     }
     list
+}
+
+/// The call with the shortest part of its scores found that still fails.
+pub fn with_fewer_scores(mut call: Call, fails: impl Fn(Call) -> bool) -> Call {
+    while let Call::Step(client, Step::WriteScores(scores)) = call {
+        let (first, second) = scores.split_at(scores.len() / 2);
+        let ends = [scores.get(1..), scores.get(..scores.len().saturating_sub(1))];
+        let parts = [first, second].into_iter().chain(ends.into_iter().flatten());
+        let shorter = parts.filter(|part| part.len() < scores.len());
+        match shorter.map(|part| Call::Step(client, Step::WriteScores(part))).find(|&call| fails(call)) {
+            Some(shorter) => call = shorter,
+            None => break,
+        }
+    }
+    call
 }
 
 /// What a call on these buffers shows, if the two sides part.
@@ -108,8 +124,9 @@ pub fn describe(buffers: &Buffers) -> String {
 
 /// The report on a call that fails on these buffers, made small.
 pub fn report(subject: Subject, call: Call, buffers: &Buffers) -> String {
+    let call = with_fewer_scores(call, |call| difference(subject, call, buffers).is_some());
     let small = simplify(subject, call, buffers);
     let found = difference(subject, call, &small).or_else(|| difference(subject, call, buffers));
-    let found = found.map_or_else(|| format!("{call:?}: it failed once and no longer does\n"), |d| d.to_string());
+    let found = found.map_or_else(|| format!("{call}: it failed once and no longer does\n"), |d| d.to_string());
     format!("{found}The smallest buffers found that show it:\n{}", describe(&small))
 }

@@ -135,7 +135,7 @@ impl Sides {
 
 impl fmt::Display for Difference {
     fn fmt(&self, f: &mut fmt::Formatter<'_>) -> fmt::Result {
-        writeln!(f, "{:?}: the library gives {:?}, the model {:?}", self.call, self.subject, self.model)?;
+        writeln!(f, "{}: the library gives {:?}, the model {:?}", self.call, self.subject, self.model)?;
         for (name, index, left, right) in self.words.iter().take(20) {
             writeln!(f, "  {name} word {index}: the library's {left:#018x}, the model's {right:#018x}")?;
         }

@@ -4,8 +4,8 @@ use crate::call::{Call, Outcome};
 use model::{Answer, Step};
 use std::fmt;
 
-/// The operations, in the reference's order, each with the answers that it can give: 1 to 17 are refusals.
-const OPERATIONS: [(&str, &[usize]); 13] = [
+/// The operations, in the reference's order, each with the answers that it can give: 1 to 19 are refusals.
+const OPERATIONS: [(&str, &[usize]); 14] = [
     ("fresh", &[DONE, 1, 17]),
     ("name", &[DONE, 1, 2, 3, 4]),
     ("become", &[DONE, 1, 2, 3, 5, 6]),
@@ -15,23 +15,27 @@ const OPERATIONS: [(&str, &[usize]); 13] = [
     ("create", &[DONE, 1, 2, 3, 7, 8, 10]),
     ("append", &[DONE, BEHIND, 1, 2, 3, 7, 8, 9]),
     ("write", &[ENTRY, 1, 2, 3, 7, 8, 9, 11, 12, 13]),
+    ("write scores", &[ENTRY, 1, 2, 3, 7, 8, 9, 12, 13, 18, 19]),
     ("close own", &[DONE, BEHIND, 1, 2, 3, 7, 8, 9, 14]),
     ("well formed", &[YES, NO]),
     ("read ledger", &[DONE, 1, 2, 15]),
     ("read chain", &[DONE, 1, 2, 16]),
 ];
 
-const DONE: usize = 18;
-const WAS_CLOSED: usize = 19;
-const BEHIND: usize = 20;
-const ENTRY: usize = 21;
-const YES: usize = 22;
-const NO: usize = 23;
+const DONE: usize = 20;
+const WAS_CLOSED: usize = 21;
+const BEHIND: usize = 22;
+const ENTRY: usize = 23;
+const YES: usize = 24;
+const NO: usize = 25;
 const NAMES: [&str; 6] = ["done", "was closed", "behind", "entry", "yes", "no"];
+
+/// The counts of one operation, by answer.
+type Counts = [u64; DONE + NAMES.len()];
 
 /// The counts, by operation and answer.
 #[derive(Clone, Debug, Default)]
-pub struct Tally([[u64; 24]; OPERATIONS.len()]);
+pub struct Tally([Counts; OPERATIONS.len()]);
 
 impl Tally {
     /// Counts a compared call.
@@ -67,11 +71,12 @@ fn operation(call: Call) -> usize {
             Step::Create => 6,
             Step::Append => 7,
             Step::Write(_) => 8,
-            Step::CloseOwn => 9,
+            Step::WriteScores(_) => 9,
+            Step::CloseOwn => 10,
         },
-        Call::WellFormed => 10,
-        Call::ReadLedger(_) => 11,
-        Call::ReadChain => 12,
+        Call::WellFormed => 11,
+        Call::ReadLedger(_) => 12,
+        Call::ReadChain => 13,
     }
 }
 
@@ -97,7 +102,7 @@ fn answer_name(answer: usize) -> String {
 /// A line for each operation, then a line for the whole.
 impl fmt::Display for Tally {
     fn fmt(&self, f: &mut fmt::Formatter<'_>) -> fmt::Result {
-        let mut whole = [0; 24];
+        let mut whole = Counts::default();
         for (counts, (name, _)) in self.0.iter().zip(OPERATIONS) {
             line(f, name, counts)?;
             whole.iter_mut().zip(counts).for_each(|(sum, count)| *sum += count);
@@ -106,9 +111,9 @@ impl fmt::Display for Tally {
     }
 }
 
-fn line(f: &mut fmt::Formatter<'_>, name: &str, counts: &[u64; 24]) -> fmt::Result {
+fn line(f: &mut fmt::Formatter<'_>, name: &str, counts: &Counts) -> fmt::Result {
     write!(f, "{name:<12}{:>10} calls:", counts.iter().sum::<u64>())?;
-    for answer in (DONE..24).chain(1..18).filter(|&answer| counts[answer] > 0) {
+    for answer in (DONE..counts.len()).chain(1..DONE).filter(|&answer| counts[answer] > 0) {
         write!(f, "  {} {}", answer_name(answer), counts[answer])?;
     }
     writeln!(f)

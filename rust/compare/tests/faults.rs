@@ -112,6 +112,40 @@ fn refused_with_a_count(call: Call, lent: &mut Lent) -> Outcome {
     }
 }
 
+// The last score is not looked at.
+fn skips_the_last_score(call: Call, lent: &mut Lent) -> Outcome {
+    match call {
+        Call::Step(client, Step::WriteScores([most @ .., _])) if (1..4_000).contains(&most.len()) => {
+            call::model(Call::Step(client, Step::WriteScores(most)), lent)
+        }
+        call => call::model(call, lent),
+    }
+}
+
+// The client's lead is looked at before the scores.
+fn lead_before_scores(call: Call, lent: &mut Lent) -> Outcome {
+    let outcome = call::model(call, lent);
+    match (call, &outcome) {
+        (Call::Step(client, Step::WriteScores(_)), Outcome::Answer(Answer::Refused(18 | 19)))
+            if Client::load(lent.state[client_index(client)]).0.leads == 0 =>
+        {
+            Outcome::Answer(Answer::Refused(7))
+        }
+        _ => outcome,
+    }
+}
+
+#[test]
+fn finds_wrong_scores() {
+    for compare in [histories::compare, buffers::compare] {
+        let report = first(compare, skips_the_last_score, 1000).expect("the fault is found");
+        let scores = report.split("WriteScores([").nth(1).and_then(|rest| rest.split(']').next());
+        assert_eq!(scores.map(|scores| scores.split(", ").count()), Some(2), "{report}");
+        let report = first(compare, lead_before_scores, 1000).expect("the fault is found");
+        assert!(report.contains("gives Answer(Refused(7)), the model Answer(Refused(1"), "{report}");
+    }
+}
+
 #[test]
 fn finds_a_refused_write() {
     let report = first(histories::compare, refuses_unnamed, 100).expect("the fault is found");

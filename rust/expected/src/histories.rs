@@ -44,8 +44,18 @@ const KINDS: [Kind; 5] = [
     kind("last entry", 8, 5600, [1, 61, 0, 16, 1]),
 ];
 
-const STEPS: [&str; 9] =
-    ["name", "become", "abdicate", "fetch", "close last", "create", "append", "write", "close own"];
+/// The steps that are drawn, in the program's order. No list of scores is.
+const STEPS: [(&str, Step); 9] = [
+    ("name", Step::Name),
+    ("become", Step::Become),
+    ("abdicate", Step::Abdicate),
+    ("fetch", Step::Fetch),
+    ("close last", Step::CloseLast),
+    ("create", Step::Create),
+    ("append", Step::Append),
+    ("write", Step::Write(0)),
+    ("close own", Step::CloseOwn),
+];
 
 /// The number after this one.
 fn following(mut x: u64) -> u64 {
@@ -70,7 +80,7 @@ fn draw_client(log: &Source, kind: &Kind, r: u64) -> u64 {
 /// A write is drawn without its value.
 fn draw_step(log: &Source, kind: &Kind, client: u64, r: u64) -> Step {
     let Some(state) = log.c_state.get(client as usize).filter(|_| !falls(r, 0, kind.any)) else {
-        return Step::ALL[(r >> 6) as usize % 9];
+        return STEPS[(r >> 6) as usize % STEPS.len()].1;
     };
     let named = log.md_leader == client;
     if falls(r, 10, kind.handover) || (!state.leader && !named) {
@@ -114,10 +124,10 @@ fn index(answer: Answer) -> usize {
     }
 }
 
-/// A step's place among the nine.
+/// A step's place among them.
 fn place(step: Step) -> usize {
-    let same = |other: &Step| discriminant(other) == discriminant(&step);
-    Step::ALL.iter().position(same).expect("there are nine steps")
+    let same = |(_, other): &(_, Step)| discriminant(other) == discriminant(&step);
+    STEPS.iter().position(same).expect("it was drawn")
 }
 
 #[derive(Default)]
@@ -129,7 +139,7 @@ struct Tally {
     one_by_one: u64,
     unlisted: u64,
     /// By kind of step.
-    answers: [Counts; 9],
+    answers: [Counts; STEPS.len()],
     /// In how many histories an answer was met.
     met: Counts,
 }
@@ -208,7 +218,7 @@ pub fn counts() -> String {
     for kind in &KINDS {
         line(&mut text, kind.name, format!("{} histories, steps of each {}", kind.histories, kind.steps));
     }
-    for (name, counts) in STEPS.iter().zip(&tally.answers) {
+    for ((name, _), counts) in STEPS.iter().zip(&tally.answers) {
         line(&mut text, name, answers(counts));
     }
     line(&mut text, "by history", answers(&tally.met));

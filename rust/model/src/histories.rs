@@ -1,6 +1,7 @@
 //! Random histories that get somewhere: clients mostly do what comes next, and stale leaders go on for a while.
 
 use crate::Step;
+use crate::lists::any_scores;
 use crate::random::Random;
 use crate::source::{Source, Status};
 
@@ -50,7 +51,7 @@ impl Profile {
             Status::CloseLastLedger => Step::CloseLast,
             Status::PendingCreateLedger => Step::Create,
             Status::PendingAppendLedger => Step::Append,
-            Status::HasOpenLedger if random.chance(self.writes) => Step::Write(any_value(random)),
+            Status::HasOpenLedger if random.chance(self.writes) => any_write(random),
             Status::HasOpenLedger => Step::CloseOwn,
         }
     }
@@ -76,10 +77,25 @@ pub fn any_value(random: &mut Random) -> u64 {
     }
 }
 
-/// One of the nine steps.
+/// A write, one in eight of scores.
+fn any_write(random: &mut Random) -> Step {
+    match random.below(8) {
+        0 => Step::WriteScores(any_scores(random)),
+        _ => Step::Write(any_value(random)),
+    }
+}
+
+/// One of the steps.
 pub fn any_step(random: &mut Random) -> Step {
-    match random.pick(&Step::ALL) {
+    let step = random.pick(&Step::ALL);
+    with_any_input(random, step)
+}
+
+/// The same kind of step, a write with any value or any scores.
+pub fn with_any_input(random: &mut Random, step: Step) -> Step {
+    match step {
         Step::Write(_) => Step::Write(any_value(random)),
+        Step::WriteScores(_) => Step::WriteScores(any_scores(random)),
         step => step,
     }
 }

@@ -3,11 +3,13 @@
 //!
 //! It says everything twice. [`words`] has the operations on buffers of any length and content, with the checks in the reference's
 //! order. [`source`] has histories of a fresh log in LedgerChaining's terms, where each client remembers the whole list. The test
-//! in `tests/` holds the two against each other, on random [`histories`].
+//! in `tests/` holds the two against each other, on random [`histories`]. [`scores`] has what a list of quality scores comes to, and [`lists`] has such lists.
 
 pub mod histories;
 pub mod layout;
+pub mod lists;
 pub mod random;
+pub mod scores;
 pub mod source;
 pub mod words;
 
@@ -26,7 +28,7 @@ pub enum Answer {
     Refused(u64),
 }
 
-/// One of the nine steps; the client that takes it stands beside it.
+/// One of the steps; the client that takes it stands beside it.
 #[derive(Clone, Copy, Debug, PartialEq, Eq)]
 pub enum Step {
     /// The client becomes the named leader.
@@ -45,13 +47,15 @@ pub enum Step {
     Append,
     /// The client writes this value.
     Write(u64),
+    /// The client writes the sum of the parts of these scores.
+    WriteScores(&'static [u16]),
     /// The client closes its own ledger.
     CloseOwn,
 }
 
 impl Step {
-    /// The nine steps, the write with a value of 0.
-    pub const ALL: [Step; 9] = [
+    /// The steps, the write with a value of 0 and that of scores with one score, of 0.
+    pub const ALL: [Step; 10] = [
         Step::Name,
         Step::Become,
         Step::Abdicate,
@@ -60,6 +64,7 @@ impl Step {
         Step::Create,
         Step::Append,
         Step::Write(0),
+        Step::WriteScores(&[0]),
         Step::CloseOwn,
     ];
 }

@@ -1,7 +1,7 @@
 //! The two halves of the model against each other: LedgerChaining's terms and the reference's words, on random histories; and the reference's examples.
 
 use model::histories::Profile;
-use model::layout::{ENTRY_WORDS, STATE_WORDS};
+use model::layout::{ENTRY_WORDS, Entry, STATE_WORDS};
 use model::random::Random;
 use model::source::{Source, Taken};
 use model::{Answer, Step, words};
@@ -14,7 +14,7 @@ fn fresh(client_count: u64) -> (Vec<u64>, Vec<u64>) {
 
 /// A refusal that LedgerChaining's own guards explain. 9 is not among them: it never occurs from a fresh log.
 fn guarded(answer: Answer) -> bool {
-    matches!(answer, Answer::Refused(3..=8 | 11 | 12 | 14))
+    matches!(answer, Answer::Refused(3..=8 | 11 | 12 | 14 | 18 | 19))
 }
 
 #[test]
@@ -101,4 +101,34 @@ fn examples() {
     assert_eq!(words::step(&mut state[..526], &mut entries, 0, Step::Name), Answer::Refused(1));
     assert_eq!(words::fresh(&mut state, &mut entries, 17), Answer::Refused(17));
     assert_eq!(words::fresh(&mut state, &mut entries, 16), Answer::Done);
+}
+
+// The checks of the scores stand between the client's number and its lead.
+#[test]
+fn scores() {
+    let good = Step::WriteScores(&[0, 40, 372]);
+    let (none, too_high) = (Step::WriteScores(&[]), Step::WriteScores(&[0, 373]));
+    let (mut state, mut entries) = fresh(2);
+    assert_eq!(words::step(&mut state[..526], &mut entries, 2, none), Answer::Refused(1));
+    let mut step = |client, step| words::step(&mut state, &mut entries, client, step);
+    assert_eq!(step(2, none), Answer::Refused(3));
+    assert_eq!(step(1, none), Answer::Refused(18));
+    assert_eq!(step(1, Step::WriteScores(&[373; 4_001])), Answer::Refused(18));
+    assert_eq!(step(1, too_high), Answer::Refused(19));
+    assert_eq!(step(1, good), Answer::Refused(7));
+    assert_eq!(step(0, Step::Become), Answer::Done);
+    assert_eq!(step(0, good), Answer::Refused(8));
+    for taken in [Step::Fetch, Step::Create, Step::Append] {
+        assert_eq!(step(0, taken), Answer::Done);
+    }
+    assert_eq!(step(0, good), Answer::Entry(0));
+    assert_eq!(step(0, too_high), Answer::Refused(19));
+    for taken in [Step::Name, Step::Become, Step::Fetch, Step::CloseLast] {
+        assert_eq!(step(1, taken), Answer::Done);
+    }
+    assert_eq!(step(0, none), Answer::Refused(18));
+    assert_eq!(step(0, good), Answer::Refused(12));
+    assert_eq!(Entry::load(entries[0]), Entry { ledger: 1, client: 0, value: 1_100_000_000_501 });
+    state[0] |= 1;
+    assert_eq!(words::step(&mut state, &mut entries, 2, none), Answer::Refused(2));
 }
