@@ -1,8 +1,8 @@
 // A session run on a file descriptor: its input is read there, and its transcript goes to standard output.
 use libc::STDOUT_FILENO;
-use session::Printed;
+use requests::start::INPUT_LIMIT;
 use session::TEXT_LIMIT;
-use session::start::INPUT_LIMIT;
+use text::lent::Printed;
 
 // Whether the whole transcript was written.
 fn print_transcript(input: &[u8]) -> bool {

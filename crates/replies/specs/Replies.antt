@@ -6,8 +6,8 @@ use Rattle.text.specs.Decimal.{decimal}
 use Rattle.chain.specs.declared.answer.Answer.{Answer}
 use Rattle.chain.specs.declared.answer.Answer.the-variants.{Done, WasClosed, Behind, Written, Refused}
 use Rattle.chain.specs.Answers.{refusalNumber}
-use Rattle.replies.specs.declared.reply.Reply.{Reply}
-use Rattle.replies.specs.declared.reply.Reply.the-variants.{Answered, NoStep}
+use Rattle.requests.specs.declared.line.Reply.{Reply}
+use Rattle.requests.specs.declared.line.Reply.the-variants.{Answered, NoStep}
 
 abbrev pub answerText : Answer → List ℕ
 answerText Done = bytes "ok"

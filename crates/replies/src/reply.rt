@@ -1,24 +1,9 @@
 // A numbered line: what a step answered, or that the line was bad.
 use chain::answer::Answer;
-ghost use Prim.Native.Nat.{_+_};
-ghost use mathlib.Core.List.{_++_};
-ghost use Rattle.text.specs.Decimal.{decimal};
+use requests::line::Reply;
+use text::decimal::put_counted;
 ghost use Rattle.text.specs.Puts.{Puts, Room};
 ghost use Rattle.replies.specs.Replies.{answerText, replyText, replyLine};
-
-// The answer of a step, or that no step was taken.
-pub enum Reply {
-    Answered(Answer),
-    NoStep,
-}
-
-fn put_counted(text: &mut [u8], at: usize, word: &[u8], n: u64) -> usize
-    requires { ⌜ Room (now text) at (now word ++ decimal n) ⌝ }
-    ensures { λ r. ⌜ Puts (now (text .entry)) at (now (word .entry) ++ decimal n) (now (text .exit)) r ⌝ }
-{
-    let e = text::phrase::put_phrase(text, at, word);
-    text::decimal::put_decimal(text, e, n)
-}
 
 fn put_answer(text: &mut [u8], at: usize, answer: Answer) -> usize
     requires { ⌜ Room (now text) at (answerText answer) ⌝ }

@@ -1,39 +1,32 @@
 -- No transcript is longer than the limit.
-use Prim.Native.Nat.{ℕ, zero, suc, _+_, _-_, _*_, _/_, _%_, _^_, _<_, _≤_}
+use Prim.Native.Nat.{ℕ, suc, _+_, _*_, _/_, _%_, _^_, _<_, _≤_}
 use native.Mathlib.Omega.{arith}
-use mathlib.Core.Path.{_≡_, refl, ap, subst, _∙_}
+use mathlib.Core.Path.{_≡_, refl}
 use mathlib.Core.List.{List, [], _∷_, _++_, map}
-use lib.ListN.{length, length-append, length-map, length-replicate}
-use lib.Dec.{ltb}
-use borrow.Author.Tests.{ltb-false}
+use lib.ListN.{length, length-append, length-map}
 use Rattle.text.specs.Bytes.{bytes}
 use Rattle.text.specs.Decimal.{decimal}
 use Rattle.text.specs.DecimalLaws.{decimal-length}
-use Rattle.checks.specs.TestLaws.{by-bool}
 use Rattle.records.specs.Layout.{clientLimit}
 use Rattle.chain.specs.declared.answer.Answer.{Answer}
 use Rattle.chain.specs.declared.answer.Answer.the-variants.{Done, WasClosed, Behind, Written, Refused}
 use Rattle.chain.specs.Answers.{refusalNumber}
 use Rattle.chain.specs.Log.{alongList}
 use Rattle.chain.specs.Steps.{Step}
-use Rattle.chain.specs.Operations.{Buffers, held, stepAnswer, afterSteps, freshBuffers, afterFresh, wordLedger, usedWords, cleared, chainReading}
-use Rattle.chain.specs.Journal.{chainWord}
-use Rattle.chain.specs.Promises.{after, told, ShowsHistory}
+use Rattle.chain.specs.Operations.{Buffers, held, stepAnswer, afterSteps, freshBuffers, wordLedger, usedWords, cleared, chainReading}
 use Rattle.chain.specs.Laws.Numbers.{NumbersBelow, step-numbers, refusal-small}
-use Rattle.chain.specs.Laws.Fresh.{fresh-formed}
-use Rattle.chain.specs.Laws.Runs.{Good, steps-capacity, steps-good}
 use Rattle.chain.specs.Laws.Readings.{read-all}
 use Rattle.dispatch.specs.Dispatch.{stepOf}
 use Rattle.grammar.specs.declared.Request.{Request}
 use Rattle.grammar.specs.declared.Request.the-variants.{Take, BadLine}
+use Rattle.requests.specs.Lines.{Line}
+use Rattle.requests.specs.Requests.{requestOf, replyTo, afterRequest, taken, request-steps}
+use Rattle.requests.specs.Opening.{inputLimit, sessionCapacity}
+use Rattle.requests.specs.Openings.{printed-length}
+use Rattle.requests.specs.Begins.{stays-good, reading-length}
 use Rattle.replies.specs.Replies.{answerText, replyText, replyLine, entryText, entriesText, chainLine}
-use Rattle.session.specs.Lines.{Line, lines}
-use Rattle.session.specs.LineLaws.{few-lines}
-use Rattle.session.specs.Parts.{request-steps, Reads}
-use Rattle.session.specs.Transcript.{inputLimit, textLimit, sessionCapacity, requestOf, replyTo, afterRequest, taken, session, clientCount, started, startedBy, transcript}
-use Rattle.session.specs.SessionPromise.{blank}
-use Rattle.session.specs.FirstLine.{few-clients}
-use Rattle.session.specs.Begins.{log-capacity, left-by-fresh, history}
+use Rattle.session.specs.Parts.{Reads}
+use Rattle.session.specs.Transcript.{textLimit, session, sessionText, transcript}
 
 answer-length : (a : Answer) → NumbersBelow a → length (answerText a) ≤ 10
 answer-length Done h = omega arith
@@ -109,51 +102,23 @@ session-length (l ∷ ls) number b h =
       session-length ls (suc number) (afterRequest r b) (omega arith),
     ))
 
--- A log that a session leads to.
-module _ (n : ℕ) (some : 1 ≤ n) (few : n ≤ clientLimit) (xs : List Step) where
-  abbrev b₀ : Buffers
-  b₀ = freshBuffers sessionCapacity n
+-- Read chain gives the whole reading of a log that a session leads to.
+pub reads : (n : ℕ) → 1 ≤ n → n ≤ clientLimit → (xs : List Step) (out : List ℕ) → sessionCapacity ≤ length out
+    → Reads (afterSteps xs (freshBuffers sessionCapacity n)) out
+reads n some few xs out h =
+    let b : Buffers = afterSteps xs (freshBuffers sessionCapacity n) in
+    let l : length (chainReading b) ≤ length out = omega (arith, reading-length n some few xs) in
+    let r = read-all b (stays-good n some few xs) out l in
+    record { answers = r .0; output = r .1; fits = l }
 
-  capacity : length (after n blank xs .entries) ≡ sessionCapacity
-  unfolding freshBuffers
-  capacity =
-      let none : ℕ = 0 in
-      steps-capacity xs (afterFresh n blank)
-      ∙ ap (λ (b : Buffers). length (b .entries)) (left-by-fresh n some few)
-      ∙ length-replicate sessionCapacity none
-
-  good : Good (afterSteps xs b₀)
-  good = steps-good xs b₀ (fresh-formed sessionCapacity n some few (log-capacity refl))
-
-  pub reading-length : length (chainReading (afterSteps xs b₀)) ≤ sessionCapacity
-  reading-length =
-      let s : ShowsHistory (after n blank xs) (told n blank xs) = history n some few xs in
-      subst (λ (d : Buffers). length (chainReading (afterSteps xs d)) ≤ sessionCapacity) (left-by-fresh n some few)
-      (omega (arith, capacity, s .few, ap (length {A = ℕ}) (s .reading), length-map (told n blank xs .accepted) chainWord))
-
-  pub reads : (out : List ℕ) → sessionCapacity ≤ length out → Reads (afterSteps xs b₀) out
-  reads out h =
-      let l : length (chainReading (afterSteps xs b₀)) ≤ length out = omega (arith, reading-length) in
-      let r = read-all (afterSteps xs b₀) good out l in
-      record { answers = r .0; output = r .1; fits = l }
-
-started-length : (n : ℕ) (ls : List Line) → n ≤ clientLimit → length ls ≤ inputLimit → length (started n ls) ≤ textLimit
-unfolding started
-started-length zero ls few h = omega arith
-started-length (suc n) ls few h = omega (
+session-limit : (n : ℕ) (ls : List Line) → 1 ≤ n → n ≤ clientLimit → length ls ≤ inputLimit → length (sessionText n ls) ≤ textLimit
+session-limit n ls some few h = omega (
   arith,
-  session-length ls 1 (freshBuffers sessionCapacity (suc n)) (omega arith),
-  chain-length (afterSteps (taken ls) (freshBuffers sessionCapacity (suc n))),
-  reading-length (suc n) (omega arith) few (taken ls),
+  session-length ls 1 (freshBuffers sessionCapacity n) (omega arith),
+  chain-length (afterSteps (taken ls) (freshBuffers sessionCapacity n)),
+  reading-length n some few (taken ls),
 )
-
-started-by-length : (ls : List Line) → length ls ≤ inputLimit → length (startedBy ls) ≤ textLimit
-unfolding startedBy
-started-by-length [] h = omega arith
-started-by-length (l ∷ ls) h = started-length (clientCount l) ls (few-clients l) (omega arith)
 
 pub transcript-length : (input : List ℕ) → length (transcript input) ≤ textLimit
 unfolding transcript
-transcript-length input = by-bool (ltb inputLimit (length input))
-    (λ t. rw t (omega arith))
-    (λ t. rw t (started-by-length (lines input) (omega (arith, few-lines input, ltb-false inputLimit (length input) t))))
+transcript-length = printed-length sessionText textLimit (omega arith) session-limit

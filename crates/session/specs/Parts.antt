@@ -1,42 +1,22 @@
--- What the parts of a session's code owe: the reply to a request, the replies to all lines, the chain at the end.
-use Prim.Native.Nat.{ℕ, _+_, _-_, _<_, _≤_}
+-- What the parts of a session's code owe: the replies to all lines, the chain at the end.
+use Prim.Native.Nat.{ℕ, _+_, _-_, _≤_}
 use native.Mathlib.Omega.{arith}
 use native.Mathlib.Numerals.{add-one}
-use mathlib.Core.Path.{_≡_, refl, sym, ap, subst, _∙_}
+use mathlib.Core.Path.{_≡_, refl, sym, subst, _∙_}
 use mathlib.Core.List.{List, [], _∷_, _++_}
-use lib.ListN.{length, take, drop, drop-of-length-le}
+use lib.ListN.{length, take, drop}
 use lib.Seq.{take-append-seam}
-use lib.Dec.{ltb}
-use Rattle.text.specs.Find.{indexOf}
 use Rattle.text.specs.Puts.{Puts, Room, room-first, Left, left-all, left-room, left-turn}
-use Rattle.chain.specs.declared.answer.Answer.{Answer}
 use Rattle.chain.specs.declared.answer.Refusal.{Refusal}
 use Rattle.chain.specs.declared.answer.ChainAnswer.{ChainAnswer}
 use Rattle.chain.specs.declared.answer.ChainAnswer.the-variants.{Count, Refused}
-use Rattle.chain.specs.Steps.{Step}
-use Rattle.chain.specs.Operations.{Buffers, buffers, Result, afterSteps, chainReading, readChainAnswer, readChainOutput}
-use Rattle.dispatch.specs.declared.Step as code
-use Rattle.dispatch.specs.Dispatch.{stepOf}
-use Rattle.grammar.specs.declared.Request.{Request}
-use Rattle.grammar.specs.declared.Request.the-variants.{Take, BadLine}
-use Rattle.replies.specs.declared.reply.Reply.{Reply}
-use Rattle.replies.specs.declared.reply.Reply.the-variants.{Answered, NoStep}
+use Rattle.chain.specs.Operations.{Buffers, afterSteps, chainReading, readChainAnswer, readChainOutput}
+use Rattle.requests.specs.declared.line.Reply.{Reply}
+use Rattle.requests.specs.Lines.{Line, lines}
+use Rattle.requests.specs.Requests.{requestOf, replyTo, afterRequest, taken, request-steps}
+use Rattle.requests.specs.Turns.{TakesLine, no-lines}
 use Rattle.replies.specs.Replies.{replyText, replyLine, chainLine}
-use Rattle.session.specs.Lines.{Line, line, lines}
-use Rattle.session.specs.LineLaws.{next-line}
-use Rattle.session.specs.Transcript.{requestOf, replyTo, afterRequest, requested, taken, session}
-
--- The reply to a request, and both buffers after it.
-pub record Answers (r : Request) (b : Buffers) (reply : Reply) (state entries : List ℕ) : Type 0 where
-  pub replies : reply ≡ replyTo r b
-  pub after-it : buffers state entries ≡ afterRequest r b
-
-pub took : (x : code.Step) (b : Buffers) (a : Answer) (state entries : List ℕ) → Result (stepOf x) b a state entries
-    → Answers (Take x) b (Answered a) state entries
-took x b a state entries r = record { replies = ap Answered (r .answers); after-it = λ i. buffers (r .state-words i) (r .entry-words i) }
-
-pub took-none : (state entries : List ℕ) → Answers BadLine (buffers state entries) NoStep state entries
-took-none state entries = record { replies = refl; after-it = refl }
+use Rattle.session.specs.Transcript.{session}
 
 -- The replies to some lines are in the text, and the chain line of the log that they lead to is left to be put.
 pub record Ran (ls : List Line) (b : Buffers) (text : List ℕ) (b′ : Buffers) (text′ : List ℕ) (at : ℕ) : Type 0 where
@@ -66,12 +46,6 @@ part-is {b} {out} s after e n q =
     let z : n - 0 ≡ length (chainReading b) = omega (arith, q) in
     rw (z, e, s .output) (take-append-seam (chainReading b) (drop (length (chainReading b)) out))
 
--- The steps of a request, and then others.
-pub request-steps : (r : Request) (xs : List Step) (b : Buffers) → afterSteps (requested r ++ xs) b ≡ afterSteps xs (afterRequest r b)
-unfolding afterSteps
-request-steps (Take x) xs b = refl
-request-steps BadLine xs b = refl
-
 -- A session that has come to a line: what is left to be put, and where all lines lead.
 pub record Running (ls : List Line) (b : Buffers) (text : List ℕ) (rest : List Line) (number : ℕ) (b′ : Buffers) (text′ : List ℕ) (at : ℕ) : Type 0 where
   pub left : Left text 0 (session 1 ls b) text′ at (session number rest b′)
@@ -99,31 +73,19 @@ module _ {ls : List Line} {b : Buffers} {text : List ℕ} {number : ℕ} {b′ :
   unfolding session taken afterSteps
   running-end s = record { left = s .left; steps = s .steps }
 
--- One turn of the loop over the input: the line that begins at i and ends at `end`.
-module _ {ls : List Line} {b : Buffers} {text : List ℕ} {number : ℕ} {b′ : Buffers} {text′ : List ℕ} {at : ℕ} (input : List ℕ) (i end : ℕ)
-    (s : Running ls b text (lines (drop i input)) number b′ text′ at) (more : i < length input) (ends : end ≡ i + indexOf 10 (drop i input))
-    (r : Request) (asked : r ≡ requestOf (line (take (end - i) (drop i input)) (ltb end (length input))))
-    (reply : Reply) (replied : reply ≡ replyTo r b′) where
-  abbrev l : Line
-  l = line (take (end - i) (drop i input)) (ltb end (length input))
-
-  here : Running ls b text (l ∷ lines (drop (end + 1) input)) number b′ text′ at
-  here = subst (λ (rest : List Line). Running ls b text rest number b′ text′ at) (next-line input i end more ends) s
-
-  same : replyTo (requestOf l) b′ ≡ reply
-  same = ap (λ (q : Request). replyTo q b′) (sym asked) ∙ sym replied
+-- One turn of the loop over the input: the line that begins at i.
+module _ {ls : List Line} {b : Buffers} {text : List ℕ} {number : ℕ} {b′ : Buffers} {text′ : List ℕ} {at : ℕ} (input : List ℕ) (i next : ℕ)
+    {reply : Reply} {b″ : Buffers} (s : Running ls b text (lines (drop i input)) number b′ text′ at) (t : TakesLine input i b′ reply next b″) where
+  here : Running ls b text (t .first ∷ lines (drop next input)) number b′ text′ at
+  here = subst (λ (rest : List Line). Running ls b text rest number b′ text′ at) (t .splits) s
 
   pub turn-room : Room text 0 (session 1 ls b) → Room text′ at (replyLine number (replyText reply))
-  turn-room room = subst (λ (q : Reply). Room text′ at (replyLine number (replyText q))) same (running-room here room)
+  turn-room room = subst (λ (q : Reply). Room text′ at (replyLine number (replyText q))) (sym (t .replies)) (running-room here room)
 
-  pub turn : (b″ : Buffers) (text″ : List ℕ) (at″ : ℕ) → b″ ≡ afterRequest r b′ → Puts text′ at (replyLine number (replyText reply)) text″ at″
-      → Running ls b text (lines (drop (end + 1) input)) (number + 1) b″ text″ at″
-  turn b″ text″ at″ e p = running-turn here b″ text″ at″ (e ∙ ap (λ (q : Request). afterRequest q b′) asked)
-      (subst (λ (q : Reply). Puts text′ at (replyLine number (replyText q)) text″ at″) (sym same) p)
-
-no-lines : (input : List ℕ) (i : ℕ) → length input ≤ i → lines (drop i input) ≡ []
-unfolding lines
-no-lines input i past = ap lines (drop-of-length-le input past)
+  pub turn : (text″ : List ℕ) (at″ : ℕ) → Puts text′ at (replyLine number (replyText reply)) text″ at″
+      → Running ls b text (lines (drop next input)) (number + 1) b″ text″ at″
+  turn text″ at″ p = running-turn here b″ text″ at″ (t .after-it)
+      (subst (λ (q : Reply). Puts text′ at (replyLine number (replyText q)) text″ at″) (t .replies) p)
 
 pub turns-end : {ls : List Line} {b : Buffers} {text : List ℕ} {number : ℕ} {b′ : Buffers} {text′ : List ℕ} {at : ℕ} (input : List ℕ) (i : ℕ)
     → Running ls b text (lines (drop i input)) number b′ text′ at → length input ≤ i → Ran ls b text b′ text′ at

@@ -2,20 +2,24 @@
 use Prim.Native.Nat.{ℕ, suc, _<_, _≤_}
 use mathlib.Core.Path.{_≡_}
 use mathlib.Core.List.{List, [], _∷_, _++_, map}
-use lib.ListN.{length, replicate}
+use lib.ListN.{length}
 use Rattle.text.specs.Bytes.{bytes}
 use Rattle.text.specs.Decimal.{decimal}
-use Rattle.records.specs.Layout.{stateLength, clientLimit}
+use Rattle.records.specs.Layout.{clientLimit}
 use Rattle.records.specs.declared.entry.Entry.{Entry}
 use Rattle.chain.specs.declared.answer.Answer.{Answer}
 use Rattle.chain.specs.declared.answer.Answer.the-variants.{Done}
-use Rattle.chain.specs.Operations.{Buffers, buffers, stepAnswers, freshAnswer, afterFresh}
+use Rattle.chain.specs.Operations.{stepAnswers, freshAnswer, afterFresh}
 use Rattle.chain.specs.Promises.{after, told, ShowsHistory}
 use Rattle.grammar.specs.declared.Request.{Request}
 use Rattle.grammar.specs.declared.Request.the-variants.{Take, BadLine}
 use Rattle.replies.specs.Replies.{answerText, replyLine}
-use Rattle.session.specs.Lines.{Line, lines}
-use Rattle.session.specs.Transcript.{inputLimit, sessionCapacity, requestOf, taken, transcript}
+use Rattle.requests.specs.Lines.{Line, lines}
+use Rattle.requests.specs.Requests.{requestOf, taken}
+use Rattle.requests.specs.Opening.{inputLimit}
+use Rattle.requests.specs.FirstLine.{firstLine}
+use Rattle.requests.specs.Begins.{blank}
+use Rattle.session.specs.Transcript.{transcript}
 
 -- The reply lines, numbered from some number on. A line that is a step takes the next answer; a bad line takes none.
 unfoldable pub replies : ℕ → List Request → List Answer → List ℕ
@@ -32,10 +36,6 @@ writesText (e ∷ es) = (bytes " " ++ (decimal (e .client) ++ (bytes ":" ++ deci
 abbrev pub writesLine : List Entry → List ℕ
 writesLine es = bytes "chain" ++ (writesText es ++ bytes "\n")
 
--- The buffers of a session's log before its fresh.
-abbrev pub blank : Buffers
-blank = buffers (replicate stateLength 0) (replicate sessionCapacity 0)
-
 -- A session of n clients with some lines after the first: the history is the steps of the good lines, from a done fresh on.
 -- The chain line is written from the journal, which is computed from the steps and their answers alone.
 pub record ShowsSession (n : ℕ) (ls : List Line) (printed : List ℕ) : Type 0 where
@@ -43,10 +43,6 @@ pub record ShowsSession (n : ℕ) (ls : List Line) (printed : List ℕ) : Type 0
   pub prints : printed ≡
       replies 1 (map requestOf ls) (stepAnswers (taken ls) (afterFresh n blank)) ++ writesLine (told n blank (taken ls) .accepted)
   pub shows : ShowsHistory (after n blank (taken ls)) (told n blank (taken ls))
-
--- A first line: a client count and byte 10.
-abbrev pub firstLine : ℕ → List ℕ
-firstLine n = decimal n ++ (10 ∷ [])
 
 -- Every input is of one of three kinds.
 pub record SessionShowsHistory : Type 0 where

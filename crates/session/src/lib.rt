@@ -1,19 +1,11 @@
 // The session program's transcript, from the bytes of its input to the bytes that it prints.
 pub mod chain_end;
-pub mod requests;
+pub mod replies_to;
 pub mod start;
 
+use text::lent::Printed;
 ghost use mathlib.Core.Path.{_≡_};
 ghost use Rattle.session.specs.Transcript.{transcriptAnswer, transcriptText};
-
-// The transcript's length, or that the text is below the limit.
-pub enum Printed {
-    Bytes(usize),
-    TextTooShort,
-}
-
-// The byte that ends a line.
-pub const LINE_END: u8 = 10;
 
 // No transcript is longer, whatever the input.
 pub const TEXT_LIMIT: usize = 360454;

@@ -7,6 +7,7 @@ pub mod PhraseLaws
 pub mod Find
 pub mod Writes
 pub mod Puts
+pub mod Lent
 pub mod PutDecimal
 pub mod ParseDecimal
 mod Examples

@@ -1,5 +1,6 @@
 // Decimal numerals, written and read.
 ghost use mathlib.Core.Path.{_≡_};
+ghost use mathlib.Core.List.{_++_};
 ghost use Prim.Native.Nat.{_+_, _%_};
 ghost use Rattle.text.specs.Decimal.{decimal, isDigit, starts, numeralOf};
 ghost use Rattle.text.specs.Puts.{Puts, Room};
@@ -27,6 +28,15 @@ pub fn put_decimal(text: &mut [u8], at: usize, n: u64) -> usize
     }
     let last = put_decimal(text, at, n / 10);
     crate::phrase::put_byte(text, last, digit(n))
+}
+
+// A phrase, and a numeral after it.
+pub fn put_counted(text: &mut [u8], at: usize, word: &[u8], n: u64) -> usize
+    requires { ⌜ Room (now text) at (now word ++ decimal n) ⌝ }
+    ensures { λ r. ⌜ Puts (now (text .entry)) at (now (word .entry) ++ decimal n) (now (text .exit)) r ⌝ }
+{
+    let e = crate::phrase::put_phrase(text, at, word);
+    put_decimal(text, e, n)
 }
 
 fn is_digit(b: u8) -> bool

@@ -1,4 +1,5 @@
 // Text in bytes: decimal numerals and fixed phrases, written to and read from byte slices.
 pub mod decimal;
 pub mod find;
+pub mod lent;
 pub mod phrase;

@@ -1,32 +1,12 @@
 -- `console::print_transcript` is safe and ends: a transcript lies within the text. Assumes nothing.
-use Prim.Native.Nat.{ℕ, _≤_}
 use native.Mathlib.Omega.{arith}
-use mathlib.Core.Path.{_≡_, sym, ap}
-use mathlib.Core.List.{List}
-use lib.ListN.{length}
-use lib.Dec.{ltb}
+use mathlib.Core.Path.{sym}
 use lib.Seq.{length-take-le}
 use borrow.Author.Needs.{needs}
-use Rattle.checks.specs.TestLaws.{by-bool}
-use Rattle.session.specs.declared.Printed.{Printed}
-use Rattle.session.specs.declared.Printed.the-variants.{Bytes, TextTooShort}
-use Rattle.session.specs.Transcript.{textLimit, transcriptAnswer}
+use Rattle.text.specs.Lent.{within}
 use Rattle.session.specs.Lengths.{transcript-length}
 use Rattle.console.proofs.print_transcript.Statement.{statement}
 use Rattle.console.proofs.print_transcript.Tie as tie
-
--- How many bytes an answer counts.
-bytesOf : Printed → ℕ
-bytesOf (Bytes n) = n
-bytesOf TextTooShort = 0
-
-few-bytes : (input text : List ℕ) → bytesOf (transcriptAnswer input text) ≤ textLimit
-unfolding bytesOf transcriptAnswer
-few-bytes input text = by-bool (ltb (length text) textLimit) (λ t. rw t (omega arith)) (λ t. rw t (transcript-length input))
-
-within : (input text : List ℕ) (r : Printed) (n : ℕ) → r ≡ transcriptAnswer input text → r ≡ Bytes n → n ≤ textLimit
-unfolding bytesOf
-within input text r n e k = omega (arith, few-bytes input text, ap bytesOf e, ap bytesOf k)
 
 slice-aggregate-transcript : tie.Need-slice-aggregate-transcript
 slice-aggregate-transcript c = search needs
@@ -40,7 +20,7 @@ enum-known-n c = search needs
 array-share-prefix-text : tie.Need-array-share-prefix-text
 array-share-prefix-text c = omega (
   arith,
-  within _ _ _ _ (c .before .before .before .before .transcript .ensures .0) (c .before .n .given .1),
+  within _ _ _ (transcript-length _) _ _ (c .before .before .before .before .transcript .ensures .0) (c .before .n .given .1),
   c .before .before .before .before .transcript .kept,
 )
 

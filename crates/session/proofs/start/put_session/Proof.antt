@@ -1,8 +1,9 @@
 -- `put_session` meets its contract.
 use native.Mathlib.Omega.{arith}
 use mathlib.Core.Path.{refl}
+use Rattle.requests.specs.Begins.{fresh-is}
+use Rattle.session.specs.Starts.{fresh-room, end-reads, end-room, end-puts}
 use borrow.Author.Needs.{needs}
-use Rattle.session.specs.Starts.{fresh-is, fresh-room, end-reads, end-room, end-puts}
 use Rattle.session.proofs.start.put_session.Statement.{statement}
 use Rattle.session.proofs.start.put_session.Tie as tie
 
@@ -24,12 +25,12 @@ slice-aggregate-put-replies-2 c = search needs
 put-replies-requires : tie.Need-put-replies-requires
 put-replies-requires c κs =
     let at-fresh = c .before .before .before .before .before in
-    let at-entry = at-fresh .before .before .before .before .before in (
-      at-entry .pre .0,
+    let begun = at-fresh .before .before .before .before .before .pre .0 in (
+      begun .within,
       (
-        at-entry .pre .1 .0,
-        fresh-room _ (at-entry .pre .1 .1 .0) (at-entry .pre .1 .1 .1 .0) _ _ _
-            (fresh-is _ (at-entry .pre .1 .1 .0) (at-entry .pre .1 .1 .1 .0) _ _ _ _ refl refl (at-fresh .fresh .ensures)) (at-entry .pre .1 .1 .1 .1),
+        begun .small,
+        fresh-room _ (begun .some) (begun .few) _ _ _ (fresh-is _ (begun .some) (begun .few) _ _ _ _ refl refl (at-fresh .fresh .ensures))
+            (at-fresh .before .before .before .before .before .pre .1),
       ),
     )
 
@@ -46,13 +47,10 @@ put-chain-requires : tie.Need-put-chain-requires
 put-chain-requires c κs =
     let at-put-replies = c .before .before .before .before .before .before .before .before in
     let at-fresh = at-put-replies .before .before .before .before .before .before in
-    let at-entry = at-fresh .before .before .before .before .before in (
-      end-reads _ (at-entry .pre .1 .1 .0) (at-entry .pre .1 .1 .1 .0)
-          (fresh-is _ (at-entry .pre .1 .1 .0) (at-entry .pre .1 .1 .1 .0) _ _ _ _ refl refl (at-fresh .fresh .ensures))
-          (at-put-replies .put-replies .ensures) _ (omega arith),
-      end-room _ (at-entry .pre .1 .1 .0) (at-entry .pre .1 .1 .1 .0)
-          (fresh-is _ (at-entry .pre .1 .1 .0) (at-entry .pre .1 .1 .1 .0) _ _ _ _ refl refl (at-fresh .fresh .ensures))
-          (at-put-replies .put-replies .ensures) (at-entry .pre .1 .1 .1 .1),
+    let begun = at-fresh .before .before .before .before .before .pre .0 in
+    let is = fresh-is _ (begun .some) (begun .few) _ _ _ _ refl refl (at-fresh .fresh .ensures) in (
+      end-reads _ (begun .some) (begun .few) is (at-put-replies .put-replies .ensures) _ (omega arith),
+      end-room _ (begun .some) (begun .few) is (at-put-replies .put-replies .ensures) (at-fresh .before .before .before .before .before .pre .1),
     )
 
 same-length : tie.Need-same-length
@@ -63,9 +61,8 @@ returns c =
     let at-put-chain = c .before .before .before in
     let at-put-replies = at-put-chain .before .before .before .before .before .before .before .before .before in
     let at-fresh = at-put-replies .before .before .before .before .before .before in
-    let at-entry = at-fresh .before .before .before .before .before in
-    end-puts _ (at-entry .pre .1 .1 .0) (at-entry .pre .1 .1 .1 .0)
-    (fresh-is _ (at-entry .pre .1 .1 .0) (at-entry .pre .1 .1 .1 .0) _ _ _ _ refl refl (at-fresh .fresh .ensures))
+    let begun = at-fresh .before .before .before .before .before .pre .0 in
+    end-puts _ (begun .some) (begun .few) (fresh-is _ (begun .some) (begun .few) _ _ _ _ refl refl (at-fresh .fresh .ensures))
     (at-put-replies .put-replies .ensures) _ _ (at-put-chain .put-chain .ensures)
 
 pub put-session-spec : {M : Type 1} → statement M

@@ -1,51 +1,80 @@
 -- `put_transcript` meets its contract.
-use borrow.Author.Tests.{lt-ltb, le-ltb}
+use Rattle.requests.specs.Starts.{prints-long, prints-bad, begun, prints-session}
+use Rattle.session.specs.Transcript.{sessionText, transcript}
 use borrow.Author.Needs.{needs}
-use Rattle.session.specs.Transcript.{transcript}
 use Rattle.session.proofs.start.put_transcript.Statement.{statement}
 use Rattle.session.proofs.start.put_transcript.Tie as tie
+
+start-of-requires : tie.Need-start-of-requires
+start-of-requires c κs = search needs
+
+enum-told : tie.Need-enum-told
+enum-told c = search needs
 
 slice-aggregate-put-phrase : tie.Need-slice-aggregate-put-phrase
 slice-aggregate-put-phrase c = search needs
 
 put-phrase-requires : tie.Need-put-phrase-requires
 unfolding transcript
-put-phrase-requires c κs =
-    let at-entry = c .before .before .before .before .before in
-    rw (lt-ltb 16384 _ (c .before .before .if1 .taken)) at (at-entry .pre)
+put-phrase-requires c κs = rw (prints-long sessionText _ _ (c .before .before .before .before .start-of .ensures) (c .before .before .enum-told .given .1)) at (c .before .before .before .before .before .before .before .pre)
+
+enum-told-2 : tie.Need-enum-told-2
+enum-told-2 c = search needs
+
+slice-aggregate-put-phrase-2 : tie.Need-slice-aggregate-put-phrase-2
+slice-aggregate-put-phrase-2 c = search needs
+
+put-phrase-requires-2 : tie.Need-put-phrase-requires-2
+unfolding transcript
+put-phrase-requires-2 c κs = rw (prints-bad sessionText _ _ (c .before .before .before .before .start-of .ensures) (c .before .before .enum-told2 .given .1)) at (c .before .before .before .before .before .before .before .pre)
+
+enum-known-start : tie.Need-enum-known-start
+enum-known-start c = search needs
+
+put-session-requires : tie.Need-put-session-requires
+unfolding transcript
+put-session-requires c κs =
+    let opens = c .before .before .before .before .start-of .ensures in
+    let told = c .before .before .start .given .1 in
+    (begun sessionText _ _ opens _ _ told, rw (prints-session sessionText _ _ opens _ _ told) at (c .before .before .before .before .before .before .before .pre))
 
 same-length : tie.Need-same-length
 same-length c = search needs
 
 returns : tie.Need-returns
 unfolding transcript
-returns c =
-    let at-if1 = c .before .before .before .before .before in
-    rw (lt-ltb 16384 _ (at-if1 .if1 .taken)) (c .before .before .put-phrase .ensures)
-
-put-started-requires : tie.Need-put-started-requires
-unfolding transcript
-put-started-requires c κs =
-    let at-entry = c .before .before .before .before in
-    (c .before .if1 .left, rw (le-ltb 16384 _ (c .before .if1 .left)) at (at-entry .pre))
+returns c = rw (prints-long sessionText _ _ (c .before .before .before .before .before .before .before .start-of .ensures) (c .before .before .before .before .before .enum-told .given .1)) (c .before .before .put-phrase .ensures)
 
 same-length-2 : tie.Need-same-length-2
 same-length-2 c = search needs
 
 returns-2 : tie.Need-returns-2
 unfolding transcript
-returns-2 c =
-    let at-if1 = c .before .before .before .before in
-    rw (le-ltb 16384 _ (at-if1 .if1 .left)) (c .before .before .put-started .ensures)
+returns-2 c = rw (prints-bad sessionText _ _ (c .before .before .before .before .before .before .before .start-of .ensures) (c .before .before .before .before .before .enum-told2 .given .1)) (c .before .before .put-phrase2 .ensures)
+
+same-length-3 : tie.Need-same-length-3
+same-length-3 c = search needs
+
+returns-3 : tie.Need-returns-3
+unfolding transcript
+returns-3 c = rw (prints-session sessionText _ _ (c .before .before .before .before .before .before .before .start-of .ensures) _ _ (c .before .before .before .before .before .start .given .1)) (c .before .before .put-session .ensures)
 
 pub put-transcript-spec : {M : Type 1} → statement M
 put-transcript-spec =
     tie.close
     (tie.spec
+    start-of-requires
+    enum-told
     slice-aggregate-put-phrase
     put-phrase-requires
+    enum-told-2
+    slice-aggregate-put-phrase-2
+    put-phrase-requires-2
+    enum-known-start
+    put-session-requires
     same-length
     returns
-    put-started-requires
     same-length-2
-    returns-2)
+    returns-2
+    same-length-3
+    returns-3)

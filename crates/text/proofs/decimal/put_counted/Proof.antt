@@ -1,8 +1,8 @@
 -- `put_counted` meets its contract.
 use borrow.Author.Needs.{needs}
 use Rattle.text.specs.Puts.{puts-then, room-first, room-next}
-use Rattle.replies.proofs.reply.put_counted.Statement.{statement}
-use Rattle.replies.proofs.reply.put_counted.Tie as tie
+use Rattle.text.proofs.decimal.put_counted.Statement.{statement}
+use Rattle.text.proofs.decimal.put_counted.Tie as tie
 
 put-phrase-requires : tie.Need-put-phrase-requires
 put-phrase-requires c κs =

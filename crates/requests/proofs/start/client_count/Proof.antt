@@ -1,9 +1,9 @@
 -- `client_count` meets its contract.
 use mathlib.Core.Path.{ap, _∙_}
 use borrow.Author.Needs.{needs}
-use Rattle.session.specs.Transcript.{countOf, clientCount}
-use Rattle.session.proofs.start.client_count.Statement.{statement}
-use Rattle.session.proofs.start.client_count.Tie as tie
+use Rattle.requests.specs.Opening.{countOf, clientCount}
+use Rattle.requests.proofs.start.client_count.Statement.{statement}
+use Rattle.requests.proofs.start.client_count.Tie as tie
 
 parse-decimal-requires : tie.Need-parse-decimal-requires
 parse-decimal-requires c κs = search needs

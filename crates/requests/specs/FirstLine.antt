@@ -1,7 +1,7 @@
 -- The first line of an input, and its client count.
 use Prim.Native.Nat.{ℕ, suc, _<_, _≤_}
 use native.Mathlib.Omega.{arith}
-use mathlib.Core.Path.{_≡_, refl, sym, ap, _∙_}
+use mathlib.Core.Path.{_≡_, refl, ap, _∙_}
 use mathlib.Core.Bool.{true, and-eq-true-iff}
 use mathlib.Core.List.{List, [], _∷_, _++_}
 use lib.ListN.{length, take, drop}
@@ -14,9 +14,12 @@ use Rattle.text.specs.Decimal.{decimal, numeralOf, isDigit, allDigits}
 use Rattle.text.specs.DecimalLaws.{digit-range, parse-print, print-parse}
 use Rattle.checks.specs.TestLaws.{by-bool}
 use Rattle.records.specs.Layout.{clientLimit}
-use Rattle.session.specs.Lines.{Line, line, longer, lines}
-use Rattle.session.specs.Transcript.{countOf, clientCount}
-use Rattle.session.specs.SessionPromise.{firstLine}
+use Rattle.requests.specs.Lines.{Line, line, longer, lines}
+use Rattle.requests.specs.Opening.{countOf, clientCount}
+
+-- A first line: a client count and byte 10.
+abbrev pub firstLine : ℕ → List ℕ
+firstLine n = decimal n ++ (10 ∷ [])
 
 count-few : (m : Numeral) → countOf m ≤ clientLimit
 count-few (Number n) = by-bool (leb n 16) (λ t. rw t (leb-true n 16 t)) (λ t. rw t (omega arith))

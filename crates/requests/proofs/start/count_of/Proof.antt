@@ -1,8 +1,8 @@
 -- `count_of` meets its contract.
 use borrow.Author.Tests.{le-leb, lt-leb}
 use borrow.Author.Needs.{needs}
-use Rattle.session.proofs.start.count_of.Statement.{statement}
-use Rattle.session.proofs.start.count_of.Tie as tie
+use Rattle.requests.proofs.start.count_of.Statement.{statement}
+use Rattle.requests.proofs.start.count_of.Tie as tie
 
 enum-known-numeral : tie.Need-enum-known-numeral
 enum-known-numeral c = search needs

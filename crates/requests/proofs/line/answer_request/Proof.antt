@@ -1,8 +1,8 @@
 -- `answer_request` meets its contract.
 use borrow.Author.Needs.{needs}
-use Rattle.session.specs.Parts.{took, took-none}
-use Rattle.session.proofs.requests.answer_request.Statement.{statement}
-use Rattle.session.proofs.requests.answer_request.Tie as tie
+use Rattle.requests.specs.Requests.{took, took-none}
+use Rattle.requests.proofs.line.answer_request.Statement.{statement}
+use Rattle.requests.proofs.line.answer_request.Tie as tie
 
 enum-known-request : tie.Need-enum-known-request
 enum-known-request c = search needs

@@ -1,8 +1,8 @@
 -- `request_of` meets its contract.
 use borrow.Author.Needs.{needs}
-use Rattle.session.specs.Transcript.{requestOf}
-use Rattle.session.proofs.requests.request_of.Statement.{statement}
-use Rattle.session.proofs.requests.request_of.Tie as tie
+use Rattle.requests.specs.Requests.{requestOf}
+use Rattle.requests.proofs.line.request_of.Statement.{statement}
+use Rattle.requests.proofs.line.request_of.Tie as tie
 
 parse-line-requires : tie.Need-parse-line-requires
 parse-line-requires c κs = search needs

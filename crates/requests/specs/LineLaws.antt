@@ -10,7 +10,7 @@ use lib.Dec.{eqb, ltb}
 use borrow.Author.Tests.{lt-ltb, le-ltb}
 use Rattle.checks.specs.TestLaws.{by-bool}
 use Rattle.text.specs.Find.{indexOf}
-use Rattle.session.specs.Lines.{Line, line, longer, lines}
+use Rattle.requests.specs.Lines.{Line, line, longer, lines}
 
 less-both : (a b : ℕ) → ltb (suc a) (suc b) ≡ ltb a b
 less-both a b = elim (decLt a b) [

@@ -1,0 +1,10 @@
+pub mod Lines
+pub mod LineLaws
+pub mod Requests
+pub mod Turns
+pub mod Opening
+pub mod FirstLine
+pub mod Openings
+pub mod Starts
+pub mod Begins
+pub mod Accepted
