@@ -1,20 +1,40 @@
-// A session run on a file descriptor: its input is read there, and its transcript goes to standard output.
+// A session's input read on a file descriptor, and what is printed of it written to standard output.
 use libc::STDOUT_FILENO;
 use requests::start::INPUT_LIMIT;
-use session::TEXT_LIMIT;
 use text::lent::Printed;
 
-// Whether the whole transcript was written.
+// What is printed: the transcript of the session, or its run total.
+pub enum Product {
+    Transcript,
+    Total,
+}
+
 fn print_transcript(input: &[u8]) -> bool {
-    let mut text = [0u8; TEXT_LIMIT];
+    let mut text = [0u8; session::TEXT_LIMIT];
     match session::transcript(input, &mut text) {
         Printed::Bytes(n) => io::write_all(STDOUT_FILENO, &text[..n]),
         Printed::TextTooShort => false,
     }
 }
 
+fn print_total(input: &[u8]) -> bool {
+    let mut text = [0u8; total::TEXT_LIMIT];
+    match total::run_total(input, &mut text) {
+        Printed::Bytes(n) => io::write_all(STDOUT_FILENO, &text[..n]),
+        Printed::TextTooShort => false,
+    }
+}
+
+// Whether the whole of it was written.
+fn print(product: Product, input: &[u8]) -> bool {
+    match product {
+        Product::Transcript => print_transcript(input),
+        Product::Total => print_total(input),
+    }
+}
+
 // Whether all went well. What failed is said on standard error.
-pub fn run(fd: i32) -> bool {
+pub fn run(fd: i32, product: Product) -> bool {
     let mut input = [0u8; INPUT_LIMIT + 1];
     let n = io::read_full(fd, &mut input);
     // The count alone does not tell the end of the input from a read that failed.
@@ -22,7 +42,7 @@ pub fn run(fd: i32) -> bool {
         os::fail(b"reading the input");
         return false;
     }
-    let printed = print_transcript(&input[..n]);
+    let printed = print(product, &input[..n]);
     if !printed {
         os::fail(b"writing the output");
     }

@@ -1,6 +1,6 @@
 //! The files of the repository that hold expected outputs.
 
-use crate::{histories, session};
+use crate::{histories, session, total};
 use std::fs;
 use std::io;
 use std::path::{Path, PathBuf};
@@ -29,15 +29,17 @@ pub fn input(name: &str) -> io::Result<Vec<u8>> {
     fs::read(root().join("crates/inputs/data").join(name))
 }
 
-fn session(input: impl AsRef<Path>, file: impl Into<PathBuf>) -> io::Result<Expected> {
-    let text = session::transcript(&fs::read(root().join(input))?);
+/// What one of the programs prints for an input.
+fn printed(program: fn(&[u8]) -> String, input: impl AsRef<Path>, file: impl Into<PathBuf>) -> io::Result<Expected> {
+    let text = program(&fs::read(root().join(input))?);
     Ok(Expected { file: file.into(), text })
 }
 
 fn all_inputs() -> io::Result<Expected> {
     let mut text = String::new();
     for name in input_names()? {
-        text += &format!("== {name}\n{}", session::transcript(&input(&name)?));
+        let input = input(&name)?;
+        text += &format!("== {name}\n{}-- total\n{}", session::transcript(&input), total::output(&input));
     }
     Ok(Expected { file: "crates/inputs/stdout".into(), text })
 }
@@ -46,16 +48,18 @@ fn all_inputs() -> io::Result<Expected> {
 pub fn all() -> io::Result<Vec<Expected>> {
     let mut all = vec![
         all_inputs()?,
-        session("crates/cindrolf/stdin", "crates/cindrolf/stdout")?,
+        printed(session::transcript, "crates/cindrolf/stdin", "crates/cindrolf/stdout")?,
+        printed(total::output, "crates/cindrolf_total/stdin", "crates/cindrolf_total/stdout")?,
         // The C example takes the same session and prints it in the same way.
-        session("crates/cindrolf/stdin", "examples/c/session.out")?,
+        printed(session::transcript, "crates/cindrolf/stdin", "examples/c/session.out")?,
         Expected { file: "crates/histories/stdout".into(), text: histories::counts() },
     ];
     let mut names: Vec<_> = fs::read_dir(root().join("examples"))?.collect::<io::Result<_>>()?;
     names.sort_by_key(|entry| entry.file_name());
     for name in names.iter().map(|entry| Path::new("examples").join(entry.file_name())) {
         if name.extension().is_some_and(|extension| extension == "session") {
-            all.push(session(&name, name.with_extension("out"))?);
+            all.push(printed(session::transcript, &name, name.with_extension("out"))?);
+            all.push(printed(total::output, &name, name.with_extension("total"))?);
         }
     }
     Ok(all)

@@ -173,8 +173,8 @@ impl Tally {
         self.chain_words += log.chain().len() as u64;
         for ledger in 0..=log.source().md_next_lid {
             self.ledgers += 1;
-            match log.ledger_length(ledger) {
-                Some(length) => self.one_by_one += length as u64,
+            match log.ledger_values(ledger) {
+                Some(values) => self.one_by_one += values.len() as u64,
                 None => self.unlisted += 1,
             }
         }

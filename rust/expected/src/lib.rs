@@ -4,3 +4,4 @@ pub mod files;
 pub mod histories;
 pub mod log;
 pub mod session;
+pub mod total;

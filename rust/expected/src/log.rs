@@ -43,8 +43,9 @@ impl Log {
         output[..count].iter().map(|&word| Entry::load(word)).map(|entry| (entry.client, entry.value)).collect()
     }
 
-    /// How many entries a ledger has, if it is listed.
-    pub fn ledger_length(&self, ledger: u64) -> Option<usize> {
-        words::read_ledger(&self.state, &self.entries, ledger).ok().map(|part| part.len())
+    /// The values of a ledger's entries in their order, if it is listed.
+    pub fn ledger_values(&self, ledger: u64) -> Option<Vec<u64>> {
+        let part = words::read_ledger(&self.state, &self.entries, ledger).ok()?;
+        Some(self.entries[part].iter().map(|&word| Entry::load(word).value).collect())
     }
 }

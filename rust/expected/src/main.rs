@@ -1,6 +1,6 @@
 //! Holds the kept outputs against the model, or writes them. See `--help`.
 
-use expected::{files, session};
+use expected::{files, session, total};
 use std::fs;
 use std::io::{self, Write};
 use std::process::ExitCode;
@@ -10,6 +10,7 @@ Holds every expected output that the repository keeps against the model.
 
   --write         writes them, from the model
   --session FILE  prints what the session program must print for this input
+  --total FILE    prints what the program of the run total must print for it
   --help          this text";
 
 /// The first line that isn't the same, counted from 1.
@@ -41,8 +42,8 @@ fn write() -> io::Result<bool> {
     Ok(true)
 }
 
-fn print_session(file: &str) -> io::Result<bool> {
-    io::stdout().write_all(session::transcript(&fs::read(file)?).as_bytes())?;
+fn print(program: fn(&[u8]) -> String, file: &str) -> io::Result<bool> {
+    io::stdout().write_all(program(&fs::read(file)?).as_bytes())?;
     Ok(true)
 }
 
@@ -52,7 +53,8 @@ fn main() -> ExitCode {
     let result = match args[..] {
         [] => compare(),
         ["--write"] => write(),
-        ["--session", file] => print_session(file),
+        ["--session", file] => print(session::transcript, file),
+        ["--total", file] => print(total::output, file),
         ["--help"] => {
             println!("{HELP}");
             Ok(true)

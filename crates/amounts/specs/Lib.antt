@@ -1,0 +1,4 @@
+pub mod Amounts
+pub mod AmountLaws
+pub mod Rounding
+mod Examples

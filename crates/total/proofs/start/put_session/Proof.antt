@@ -1,0 +1,66 @@
+-- `put_session` meets its contract.
+use mathlib.Core.Path.{refl}
+use Rattle.requests.specs.Begins.{fresh-is}
+use Rattle.total.specs.Summed.{run-summable, run-room, run-puts}
+use borrow.Author.Needs.{needs}
+use Rattle.total.proofs.start.put_session.Statement.{statement}
+use Rattle.total.proofs.start.put_session.Tie as tie
+
+slice-aggregate-fresh : tie.Need-slice-aggregate-fresh
+slice-aggregate-fresh c = search needs
+
+slice-aggregate-fresh-2 : tie.Need-slice-aggregate-fresh-2
+slice-aggregate-fresh-2 c = search needs
+
+fresh-requires : tie.Need-fresh-requires
+fresh-requires c κs = search needs
+
+slice-aggregate-run-lines : tie.Need-slice-aggregate-run-lines
+slice-aggregate-run-lines c = search needs
+
+slice-aggregate-run-lines-2 : tie.Need-slice-aggregate-run-lines-2
+slice-aggregate-run-lines-2 c = search needs
+
+run-lines-requires : tie.Need-run-lines-requires
+run-lines-requires c κs = (c .before .before .before .before .before .before .before .before .before .pre .0 .within, c .before .before .before .before .before .before .before .before .before .pre .0 .small)
+
+slice-aggregate-put-log : tie.Need-slice-aggregate-put-log
+slice-aggregate-put-log c = search needs
+
+slice-aggregate-put-log-2 : tie.Need-slice-aggregate-put-log-2
+slice-aggregate-put-log-2 c = search needs
+
+put-log-requires : tie.Need-put-log-requires
+put-log-requires c κs =
+    let at-fresh = c .before .before .before .before .before .before .before .before .before .before in
+    let begun = at-fresh .before .before .before .before .before .pre .0 in
+    let is = fresh-is _ (begun .some) (begun .few) _ _ _ _ refl refl (at-fresh .fresh .ensures) in (
+      run-summable _ (begun .some) (begun .few) _ is (c .before .before .before .before .before .run-lines .ensures),
+      run-room _ (begun .some) (begun .few) _ is (c .before .before .before .before .before .run-lines .ensures) (at-fresh .before .before .before .before .before .pre .1),
+    )
+
+same-length : tie.Need-same-length
+same-length c = search needs
+
+returns : tie.Need-returns
+returns c =
+    let at-fresh = c .before .before .before .before .before .before .before .before .before .before .before .before .before in
+    let begun = at-fresh .before .before .before .before .before .pre .0 in
+    run-puts _ (begun .some) (begun .few) _ (fresh-is _ (begun .some) (begun .few) _ _ _ _ refl refl (at-fresh .fresh .ensures))
+    (c .before .before .before .before .before .before .before .before .run-lines .ensures) (c .before .before .put-log .ensures)
+
+pub put-session-spec : {M : Type 1} → statement M
+put-session-spec =
+    tie.close
+    (tie.spec
+    slice-aggregate-fresh
+    slice-aggregate-fresh-2
+    fresh-requires
+    slice-aggregate-run-lines
+    slice-aggregate-run-lines-2
+    run-lines-requires
+    slice-aggregate-put-log
+    slice-aggregate-put-log-2
+    put-log-requires
+    same-length
+    returns)

@@ -1,0 +1,24 @@
+// The run total of a session: from the bytes of its input to the bytes that are printed.
+mod ledgers;
+mod lines;
+pub mod start;
+mod sums;
+
+use text::lent::Printed;
+ghost use mathlib.Core.Path.{_≡_};
+ghost use Rattle.total.specs.Output.{outputAnswer, outputText};
+
+// No output is longer, whatever the input.
+pub const TEXT_LIMIT: usize = 12799;
+
+// Nothing is written before it is known that every output fits.
+pub fn run_total(input: &[u8], text: &mut [u8]) -> Printed
+    ensures answer { λ r. ⌜ r ≡ outputAnswer (now (input .entry)) (now (text .entry)) ⌝ }
+    ensures text { λ r. ⌜ now (text .exit) ≡ outputText (now (input .entry)) (now (text .entry)) ⌝ }
+{
+    if text.len() < TEXT_LIMIT {
+        return Printed::TextTooShort;
+    }
+    let n = crate::start::put_output(input, text);
+    Printed::Bytes(n)
+}

@@ -1,0 +1,61 @@
+// The whole output: of no session one line that says why, and of a session its listed ledgers, their total, and that rounded.
+use records::layout::STATE_LENGTH;
+use requests::start::CAPACITY;
+use requests::start::Start;
+ghost use mathlib.Core.Path.{_≡_};
+ghost use Prim.Native.Nat.{_≤_};
+ghost use lib.ListN.{length, drop};
+ghost use Rattle.text.specs.Puts.{Puts, Room};
+ghost use Rattle.chain.specs.Operations.{buffers, afterSteps};
+ghost use Rattle.requests.specs.Lines.{lines};
+ghost use Rattle.requests.specs.Requests.{taken};
+ghost use Rattle.requests.specs.Starts.{Begun};
+ghost use Rattle.total.specs.Output.{logText, sessionTotal, output};
+ghost use Rattle.total.specs.Listing.{Summable};
+
+// Takes the lines from a place of the input on.
+fn run_lines(input: &[u8], from: usize, state: &mut [u64], entries: &mut [u64])
+    requires from { ⌜ from ≤ length (now input) ⌝ }
+    requires small { ⌜ length (now input) ≤ 16384 ⌝ }
+    ensures { λ r. ⌜ buffers (now (state .exit)) (now (entries .exit)) ≡ afterSteps (taken (lines (drop from (now (input .entry))))) (buffers (now (state .entry)) (now (entries .entry))) ⌝ }
+{
+    let mut i = from;
+    while i < input.len() {
+        let taken = requests::line::take_line(input, i, state, entries);
+        i = taken.next;
+    }
+}
+
+fn put_log(state: &[u64], entries: &[u64], text: &mut [u8]) -> usize
+    requires log { ⌜ Summable (buffers (now state) (now entries)) ⌝ }
+    requires room { ⌜ Room (now text) 0 (logText (buffers (now state) (now entries))) ⌝ }
+    ensures { λ r. ⌜ Puts (now (text .entry)) 0 (logText (buffers (now (state .entry)) (now (entries .entry)))) (now (text .exit)) r ⌝ }
+{
+    let ledgers = crate::ledgers::put_ledgers(state, entries, text);
+    crate::lines::put_end(text, ledgers.at, ledgers.sum)
+}
+
+// A session on a log of its own.
+fn put_session(input: &[u8], from: usize, count: u64, text: &mut [u8]) -> usize
+    requires begun { ⌜ Begun (now input) count from ⌝ }
+    requires room { ⌜ Room (now text) 0 (sessionTotal count (lines (drop from (now input)))) ⌝ }
+    ensures { λ r. ⌜ Puts (now (text .entry)) 0 (sessionTotal count (lines (drop from (now (input .entry))))) (now (text .exit)) r ⌝ }
+{
+    let mut state = [0u64; STATE_LENGTH];
+    let mut entries = [0u64; CAPACITY];
+    fresh::fresh(&mut state, &mut entries, count);
+    run_lines(input, from, &mut state, &mut entries);
+    put_log(&state, &entries, text)
+}
+
+pub fn put_output(input: &[u8], text: &mut [u8]) -> usize
+    requires { ⌜ Room (now text) 0 (output (now input)) ⌝ }
+    ensures { λ r. ⌜ Puts (now (text .entry)) 0 (output (now (input .entry))) (now (text .exit)) r ⌝ }
+{
+    let start = requests::start::start_of(input);
+    match start {
+        Start::TooLong => text::phrase::put_phrase(text, 0, b"too long\n"),
+        Start::BadStart => text::phrase::put_phrase(text, 0, b"bad start\n"),
+        Start::Begins(count, from) => put_session(input, from, count, text),
+    }
+}
