@@ -25,7 +25,7 @@ extern "C" {
 #endif
 
 /* The number of this interface. It goes up with every change that a caller has to follow. */
-#define CINDROLF_VERSION UINT64_C(1)
+#define CINDROLF_VERSION UINT64_C(2)
 
 /* The number of the interface that the archive has. Compare it with CINDROLF_VERSION before the first call. */
 uint64_t cindrolf_version(void);
@@ -41,12 +41,18 @@ uint64_t cindrolf_version(void);
 /* The stage of a client in a well-formed log, 0 to 5: waiting, fetching, closing the last ledger, creating, appending, writing. */
 #define CINDROLF_STAGE(state, client) ((state)[1 + (client)] >> 60 & 7)
 
-/* What an operation answers. Refusal n is CINDROLF_REFUSED + n, and entry number e is CINDROLF_ENTRY + e. */
+/* What an operation answers. Refusal n is CINDROLF_REFUSED + n. An accepted write is CINDROLF_ENTRY + e * 65536 + p, for entry number e at
+ * place p of its ledger. */
 #define CINDROLF_DONE UINT64_C(0)
 #define CINDROLF_WAS_CLOSED UINT64_C(1)
 #define CINDROLF_BEHIND UINT64_C(2)
 #define CINDROLF_REFUSED UINT64_C(256)
-#define CINDROLF_ENTRY UINT64_C(65536)
+#define CINDROLF_ENTRY (UINT64_C(1) << 32)
+
+/* The parts of an accepted write's answer, one that is CINDROLF_ENTRY or more: the entry's number in the log, and its place in its ledger,
+ * which is how many entries that ledger had before. Both are from 0. */
+static inline uint64_t cindrolf_answer_entry(uint64_t answer) { return (answer - CINDROLF_ENTRY) >> 16; }
+static inline uint64_t cindrolf_answer_place(uint64_t answer) { return answer & 65535; }
 
 /* The refusals. The first that applies is given; it changes no word of any buffer. */
 #define CINDROLF_REFUSAL_WRONG_LENGTH UINT64_C(1)       /* state or entries has another length than those above */
@@ -108,12 +114,12 @@ uint64_t cindrolf_create(uint64_t *state, size_t state_length, uint64_t *entries
  * or appended: behind, and the client stops leading. Or refusal 7, 8 or 9. */
 uint64_t cindrolf_append(uint64_t *state, size_t state_length, uint64_t *entries, size_t entries_length, uint64_t client);
 
-/* The leader adds an entry to its ledger: CINDROLF_ENTRY + its number, from 0, or refusal 11, 7, 8, 9, 12 or 13.
+/* The leader adds an entry to its ledger: CINDROLF_ENTRY or more, with its number and its place as above, or refusal 11, 7, 8, 9, 12 or 13.
  * Who is named leader plays no part. */
 uint64_t cindrolf_write(uint64_t *state, size_t state_length, uint64_t *entries, size_t entries_length, uint64_t client, uint64_t value);
 
 /* The leader adds an entry to its ledger whose value is the sum of the error probabilities of these quality scores, each score in quarters
- * of a Phred unit and each probability in whole parts of 10^-12: CINDROLF_ENTRY + its number, or refusal 18, 19, 7, 8, 9, 12 or 13.
+ * of a Phred unit and each probability in whole parts of 10^-12: as cindrolf_write answers, or refusal 18, 19, 7, 8, 9, 12 or 13.
  * The scores are lent to be read, and stay as they are. A null pointer with length 0 is a list without scores, which is refused by 18.
  * A caller that keeps its scores in a wider type tests them before it narrows them: 65541 would become score 5 unseen. */
 uint64_t cindrolf_write_scores(uint64_t *state, size_t state_length, uint64_t *entries, size_t entries_length, uint64_t client,

@@ -1,4 +1,5 @@
-/* The version of the library, null pointers with length 0, which every function takes for an empty buffer, and the limits of lent scores.
+/* The version of the library, null pointers with length 0, which every function takes for an empty buffer, the limits of lent scores, and the
+ * numbers and places that writes answer.
  * It compiles as C and as C++. */
 #include "cindrolf.h"
 
@@ -65,9 +66,16 @@ static uint64_t write_scores_by(uint64_t client, const uint16_t *list, size_t co
 
 static uint64_t write_scores(const uint16_t *list, size_t count) { return write_scores_by(0, list, count); }
 
-/* The entry that the log has room for next, from these scores, and the value that it has to have. */
+/* An answer's number and its two parts. */
+static void expect_written(const char *what, uint64_t answer, uint64_t number, uint64_t place) {
+    expect(what, answer, UINT64_C(4294967296) + number * 65536 + place);
+    expect(what, cindrolf_answer_entry(answer), number);
+    expect(what, cindrolf_answer_place(answer), place);
+}
+
+/* The entry that the log has room for next, from these scores, and the value that it has to have. All are in ledger 1. */
 static void write_and_read(const char *what, uint64_t number, size_t count, uint64_t value) {
-    expect(what, write_scores(scores, count), CINDROLF_ENTRY + number);
+    expect_written(what, write_scores(scores, count), number, number);
     expect(what, cindrolf_word_value(entries[number]), value);
 }
 
@@ -93,6 +101,15 @@ static void check_scores(void) {
     expect("the last score", scores[CINDROLF_SCORES_LIMIT - 1], CINDROLF_HIGHEST_SCORE + 1);
 }
 
+/* To the last entry, after client 0 has gone on to ledger 2 at entry 5: numbers go on, places begin anew. */
+static void check_places(void) {
+    cindrolf_close_own(state, CINDROLF_STATE_WORDS, entries, CINDROLF_ENTRY_WORDS, 0);
+    cindrolf_create(state, CINDROLF_STATE_WORDS, entries, CINDROLF_ENTRY_WORDS, 0);
+    cindrolf_append(state, CINDROLF_STATE_WORDS, entries, CINDROLF_ENTRY_WORDS, 0);
+    for (uint64_t number = 5; number < CINDROLF_ENTRY_WORDS; number++)
+        expect_written("a later write", cindrolf_write(state, CINDROLF_STATE_WORDS, entries, CINDROLF_ENTRY_WORDS, 0, 1), number, number - 5);
+}
+
 int main(void) {
     expect("version", cindrolf_version(), CINDROLF_VERSION);
 
@@ -114,10 +131,11 @@ int main(void) {
     cindrolf_fetch(state, CINDROLF_STATE_WORDS, entries, CINDROLF_ENTRY_WORDS, 0);
     cindrolf_create(state, CINDROLF_STATE_WORDS, entries, CINDROLF_ENTRY_WORDS, 0);
     cindrolf_append(state, CINDROLF_STATE_WORDS, entries, CINDROLF_ENTRY_WORDS, 0);
-    expect("write", cindrolf_write(state, CINDROLF_STATE_WORDS, entries, CINDROLF_ENTRY_WORDS, 0, 7), CINDROLF_ENTRY);
+    expect_written("write", cindrolf_write(state, CINDROLF_STATE_WORDS, entries, CINDROLF_ENTRY_WORDS, 0, 7), 0, 0);
     chain = cindrolf_read_chain(state, CINDROLF_STATE_WORDS, entries, CINDROLF_ENTRY_WORDS, NULL, 0);
     expect("read a chain into no output", chain.answer, CINDROLF_REFUSED + CINDROLF_REFUSAL_OUTPUT_TOO_SHORT);
     expect("its words", chain.count, 0);
     check_scores();
+    check_places();
     return wrong;
 }

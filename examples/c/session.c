@@ -20,12 +20,15 @@ struct line {
     uint64_t expected;
 };
 
+/* The answer to a write that becomes this entry, at this place of its ledger. */
+#define WRITTEN(entry, place) (CINDROLF_ENTRY + UINT64_C(entry) * 65536 + UINT64_C(place))
+
 static const struct line session[] = {
     {'B', 0, 0, CINDROLF_DONE},
     {'F', 0, 0, CINDROLF_DONE},
     {'C', 0, 0, CINDROLF_DONE},
     {'P', 0, 0, CINDROLF_DONE},
-    {'W', 0, 7, CINDROLF_ENTRY + 0},
+    {'W', 0, 7, WRITTEN(0, 0)},
     {'N', 1, 0, CINDROLF_DONE},
     {'B', 1, 0, CINDROLF_DONE},
     {'F', 1, 0, CINDROLF_DONE},
@@ -33,7 +36,7 @@ static const struct line session[] = {
     {'W', 0, 8, CINDROLF_REFUSED + CINDROLF_REFUSAL_LEDGER_FENCED},
     {'C', 1, 0, CINDROLF_DONE},
     {'P', 1, 0, CINDROLF_DONE},
-    {'W', 1, 9, CINDROLF_ENTRY + 1},
+    {'W', 1, 9, WRITTEN(1, 0)},
     {'O', 0, 0, CINDROLF_BEHIND},
 };
 
@@ -60,7 +63,7 @@ static uint64_t take_step(const struct line *l) {
 
 static void print_answer(unsigned number, uint64_t answer) {
     if (answer >= CINDROLF_ENTRY)
-        printf("%u entry %" PRIu64 "\n", number, answer - CINDROLF_ENTRY);
+        printf("%u entry %" PRIu64 " place %" PRIu64 "\n", number, cindrolf_answer_entry(answer), cindrolf_answer_place(answer));
     else if (answer >= CINDROLF_REFUSED)
         printf("%u ref %" PRIu64 "\n", number, answer - CINDROLF_REFUSED);
     else if (answer == CINDROLF_BEHIND)
@@ -98,7 +101,7 @@ static void check_ledgers(void) {
 /* The next entry of the new leader, from the quality scores of a read. */
 static void check_scores(void) {
     const uint16_t scores[] = {0, 40, 372};
-    expect("write scores", cindrolf_write_scores(STATE, ENTRIES, 1, scores, 3), CINDROLF_ENTRY + 2);
+    expect("write scores", cindrolf_write_scores(STATE, ENTRIES, 1, scores, 3), WRITTEN(2, 1));
     expect("the sum of their parts", cindrolf_word_value(entries[2]), UINT64_C(1100000000501));
     expect("write no scores", cindrolf_write_scores(STATE, ENTRIES, 1, scores, 0), CINDROLF_REFUSED + CINDROLF_REFUSAL_SCORE_COUNT);
 }

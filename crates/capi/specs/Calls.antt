@@ -18,7 +18,7 @@ use Rattle.readers.specs.Locate.{partStart, Locates}
 
 -- The number of this interface, the same as CINDROLF_VERSION in include/cindrolf.h.
 abbrev pub interfaceVersion : ℕ
-interfaceVersion = 1
+interfaceVersion = 2
 
 -- An operation on both buffers: its answer, and every word afterwards.
 pub record Call (a : Answer) (after : Buffers) (r : ℕ) (state entries : List ℕ) : Type 0 where

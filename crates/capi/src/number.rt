@@ -6,7 +6,10 @@ ghost use Rattle.chain.specs.Laws.Numbers.{NumbersBelow};
 
 const REFUSED: u64 = 256;
 
-const ENTRY: u64 = 65536;
+// An entry's answer is ENTRY + its number × NUMBER_UNIT + its place in its ledger.
+const ENTRY: u64 = 1 << 32;
+
+const NUMBER_UNIT: u64 = 1 << 16;
 
 pub fn answer_number(a: Answer) -> u64
     requires { ⌜ NumbersBelow a ⌝ }
@@ -17,6 +20,6 @@ pub fn answer_number(a: Answer) -> u64
         Answer::WasClosed => 1,
         Answer::Behind => 2,
         Answer::Refused(r) => REFUSED + chain::answer::refusal_number(r),
-        Answer::Written(e) => ENTRY + e.0,
+        Answer::Written(at) => ENTRY + (at.number.0 * NUMBER_UNIT + at.place.0),
     }
 }

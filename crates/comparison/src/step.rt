@@ -43,6 +43,7 @@ fn take(model: &mut Model, asked: Asked) -> Said {
     Said {
         answer: v.answer,
         number: v.number,
+        place: v.place,
     }
 }
 

@@ -25,7 +25,10 @@ fn say_answer(answer: Answer) {
         Answer::Done => say(b" ok\n"),
         Answer::WasClosed => say(b" was\n"),
         Answer::Behind => say(b" behind\n"),
-        Answer::Written(n) => say_number_line(b" entry ", n.0),
+        Answer::Written(n) => {
+            say_counted(b" entry ", n.number.0);
+            say_number_line(b" place ", n.place.0)
+        }
         Answer::Refused(r) => say_number_line(b" ref ", chain::answer::refusal_number(r)),
     }
 }

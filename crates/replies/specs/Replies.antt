@@ -3,17 +3,21 @@ use Prim.Native.Nat.{ℕ, _/_, _%_, _^_}
 use mathlib.Core.List.{List, [], _∷_, _++_}
 use Rattle.text.specs.Bytes.{bytes}
 use Rattle.text.specs.Decimal.{decimal}
+use Rattle.chain.specs.declared.answer.Position.{Position}
 use Rattle.chain.specs.declared.answer.Answer.{Answer}
 use Rattle.chain.specs.declared.answer.Answer.the-variants.{Done, WasClosed, Behind, Written, Refused}
 use Rattle.chain.specs.Answers.{refusalNumber}
 use Rattle.requests.specs.declared.line.Reply.{Reply}
 use Rattle.requests.specs.declared.line.Reply.the-variants.{Answered, NoStep}
 
+abbrev pub positionText : Position → List ℕ
+positionText p = (bytes "entry " ++ decimal (p .number .0)) ++ (bytes " place " ++ decimal (p .place .0))
+
 abbrev pub answerText : Answer → List ℕ
 answerText Done = bytes "ok"
 answerText WasClosed = bytes "was"
 answerText Behind = bytes "behind"
-answerText (Written n) = bytes "entry " ++ decimal (n .0)
+answerText (Written p) = positionText p
 answerText (Refused r) = bytes "ref " ++ decimal (refusalNumber r)
 
 abbrev pub replyText : Reply → List ℕ

@@ -1,9 +1,18 @@
 // A numbered line: what a step answered, or that the line was bad.
 use chain::answer::Answer;
+use chain::answer::Position;
 use requests::line::Reply;
 use text::decimal::put_counted;
 ghost use Rattle.text.specs.Puts.{Puts, Room};
-ghost use Rattle.replies.specs.Replies.{answerText, replyText, replyLine};
+ghost use Rattle.replies.specs.Replies.{positionText, answerText, replyText, replyLine};
+
+fn put_position(text: &mut [u8], at: usize, p: Position) -> usize
+    requires { ⌜ Room (now text) at (positionText p) ⌝ }
+    ensures { λ r. ⌜ Puts (now (text .entry)) at (positionText p) (now (text .exit)) r ⌝ }
+{
+    let e = put_counted(text, at, b"entry ", p.number.0);
+    put_counted(text, e, b" place ", p.place.0)
+}
 
 fn put_answer(text: &mut [u8], at: usize, answer: Answer) -> usize
     requires { ⌜ Room (now text) at (answerText answer) ⌝ }
@@ -13,7 +22,7 @@ fn put_answer(text: &mut [u8], at: usize, answer: Answer) -> usize
         Answer::Done => text::phrase::put_phrase(text, at, b"ok"),
         Answer::WasClosed => text::phrase::put_phrase(text, at, b"was"),
         Answer::Behind => text::phrase::put_phrase(text, at, b"behind"),
-        Answer::Written(n) => put_counted(text, at, b"entry ", n.0),
+        Answer::Written(p) => put_position(text, at, p),
         Answer::Refused(r) => {
             let n = chain::answer::refusal_number(r);
             put_counted(text, at, b"ref ", n)

@@ -28,23 +28,28 @@ use Rattle.replies.specs.Replies.{answerText, replyText, replyLine, entryText, 
 use Rattle.session.specs.Parts.{Reads}
 use Rattle.session.specs.Transcript.{textLimit, session, sessionText, transcript}
 
-answer-length : (a : Answer) → NumbersBelow a → length (answerText a) ≤ 10
+answer-length : (a : Answer) → NumbersBelow a → length (answerText a) ≤ 21
 answer-length Done h = omega arith
 answer-length WasClosed h = omega arith
 answer-length Behind h = omega arith
-answer-length (Written n) h = omega (arith, length-append (bytes "entry ") (decimal (n .0)), decimal-length 4 (n .0) (omega arith) (omega arith))
+answer-length (Written n) h = omega (
+  arith,
+  length-append (bytes "entry " ++ decimal (n .number .0)) (bytes " place " ++ decimal (n .place .0)),
+  decimal-length 4 (n .number .0) (omega arith) (omega (arith, h .0)),
+  decimal-length 4 (n .place .0) (omega arith) (omega (arith, h .1)),
+)
 answer-length (Refused r) h = omega (
   arith,
   length-append (bytes "ref ") (decimal (refusalNumber r)),
   decimal-length 2 (refusalNumber r) (omega arith) (refusal-small r),
 )
 
-reply-length : (r : Request) (b : Buffers) → length (replyText (replyTo r b)) ≤ 10
+reply-length : (r : Request) (b : Buffers) → length (replyText (replyTo r b)) ≤ 21
 reply-length (Take x) b = answer-length (stepAnswer (stepOf x) b) (step-numbers (stepOf x) b)
 reply-length BadLine b = omega arith
 
--- A numbered line has at most 17 bytes: five digits, two separators and the reply.
-line-length : (number : ℕ) (reply : List ℕ) → number < 100000 → length reply ≤ 10 → length (replyLine number reply) ≤ 17
+-- A numbered line has at most 28 bytes: five digits, two separators and the reply.
+line-length : (number : ℕ) (reply : List ℕ) → number < 100000 → length reply ≤ 21 → length (replyLine number reply) ≤ 28
 unfolding replyLine
 line-length number reply h l = omega (
   arith,
@@ -89,7 +94,7 @@ unfolding afterSteps
 no-steps b = refl
 
 session-length : (ls : List Line) (number : ℕ) (b : Buffers) → number + length ls ≤ 100000
-    → length (session number ls b) ≤ 17 * length ls + length (chainLine (chainReading (afterSteps (taken ls) b)))
+    → length (session number ls b) ≤ 28 * length ls + length (chainLine (chainReading (afterSteps (taken ls) b)))
 unfolding session taken
 session-length [] number b h = rw (no-steps b) (omega arith)
 session-length (l ∷ ls) number b h =

@@ -23,7 +23,7 @@ transcript input = printed sessionText (opening input)
 
 -- The transcript in a lent text. A text below the limit is refused, whatever the input; no transcript is longer (Lengths).
 abbrev pub textLimit : ℕ
-textLimit = 360454
+textLimit = 540678
 
 abbrev pub transcriptAnswer : List ℕ → List ℕ → Printed
 transcriptAnswer input text = lentAnswer textLimit (transcript input) text

@@ -8,7 +8,7 @@ ghost use mathlib.Core.Path.{_≡_};
 ghost use Rattle.session.specs.Transcript.{transcriptAnswer, transcriptText};
 
 // No transcript is longer, whatever the input.
-pub const TEXT_LIMIT: usize = 360454;
+pub const TEXT_LIMIT: usize = 540678;
 
 // Nothing is written before it is known that every transcript fits.
 pub fn transcript(input: &[u8], text: &mut [u8]) -> Printed

@@ -6,6 +6,19 @@ use crate::{Error, Refusal};
 #[derive(Clone, Copy, Debug, PartialEq, Eq, Hash, PartialOrd, Ord)]
 pub struct EntryNumber(pub u64);
 
+/// The place of an entry in its ledger, from 0: how many entries the ledger had before it.
+#[derive(Clone, Copy, Debug, PartialEq, Eq, Hash, PartialOrd, Ord)]
+pub struct LedgerPlace(pub u64);
+
+/// Where an accepted write is stored.
+#[derive(Clone, Copy, Debug, PartialEq, Eq, Hash)]
+pub struct Position {
+    /// The entry's number in the log.
+    pub number: EntryNumber,
+    /// Its place in its ledger.
+    pub place: LedgerPlace,
+}
+
 /// The number of a ledger, from 1.
 #[derive(Clone, Copy, Debug, PartialEq, Eq, Hash, PartialOrd, Ord)]
 pub struct LedgerNumber(pub u64);
@@ -36,7 +49,10 @@ const DONE: u64 = 0;
 const WAS_CLOSED: u64 = 1;
 const BEHIND: u64 = 2;
 const REFUSED: u64 = 256;
-const ENTRY: u64 = 65536;
+const ENTRY: u64 = 1 << 32;
+
+/// What an entry's number counts for in an answer; its place in its ledger stands below.
+const NUMBER_UNIT: u64 = 1 << 16;
 
 /// The error in a number that isn't one of the operation's own answers.
 fn error(number: u64) -> Error {
@@ -65,8 +81,13 @@ pub(crate) fn progress(number: u64) -> Result<Progress, Error> {
     }
 }
 
-pub(crate) fn entry(number: u64) -> Result<EntryNumber, Error> {
-    number.checked_sub(ENTRY).map(EntryNumber).ok_or_else(|| error(number))
+pub(crate) fn entry(number: u64) -> Result<Position, Error> {
+    match number.checked_sub(ENTRY) {
+        Some(at) if at < ENTRY => {
+            Ok(Position { number: EntryNumber(at / NUMBER_UNIT), place: LedgerPlace(at % NUMBER_UNIT) })
+        }
+        _ => Err(error(number)),
+    }
 }
 
 #[cfg(test)]
@@ -79,7 +100,11 @@ mod tests {
         assert_eq!(close_last(1), Ok(CloseLast::WasClosed));
         assert_eq!(close_last(2), Ok(CloseLast::Behind));
         assert_eq!(progress(2), Ok(Progress::Behind));
-        assert_eq!(entry(65536 + 4095), Ok(EntryNumber(4095)));
+        let at = |number, place| Ok(Position { number: EntryNumber(number), place: LedgerPlace(place) });
+        assert_eq!(entry(0x1_0000_0000), at(0, 0));
+        assert_eq!(entry(0x1_0001_0000), at(1, 0));
+        assert_eq!(entry(0x1_0FFF_0002), at(4095, 2));
+        assert_eq!(entry(0x1_0FFF_0FFF), at(4095, 4095));
     }
 
     #[test]
@@ -96,7 +121,7 @@ mod tests {
     // A number is unknown to an operation that can't answer it, even where another operation can.
     #[test]
     fn unknown_numbers() {
-        for number in [3, 255, 256, 256 + 20, 65535] {
+        for number in [3, 255, 256, 256 + 20, 65535, 65536, 0xFFFF_FFFF, 0x2_0000_0000] {
             let unknown = Error::UnknownAnswer(number);
             assert_eq!(done(number), Err(unknown));
             assert_eq!(close_last(number), Err(unknown));

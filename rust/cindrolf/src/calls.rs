@@ -16,7 +16,7 @@
 //! null and valid for their lengths. A `&mut` slice is lent to nobody else meanwhile, so what the library changes
 //! overlaps nothing. Each block's comment adds what is special to it.
 
-use crate::{CloseLast, EntryNumber, Error, LedgerNumber, Progress, answer, raw};
+use crate::{CloseLast, Error, LedgerNumber, Position, Progress, answer, raw};
 
 // An operation that changes both buffers, by the numbers that it takes and the answers that it can give.
 macro_rules! operation {
@@ -73,8 +73,8 @@ operation! {
 }
 
 operation! {
-    /// The client adds an entry to its ledger, and is answered the entry's number.
-    write(client, value), cindrolf_write, answer::entry => EntryNumber
+    /// The client adds an entry to its ledger, and is answered the entry's number and its place in that ledger.
+    write(client, value), cindrolf_write, answer::entry => Position
 }
 
 operation! {
@@ -82,9 +82,9 @@ operation! {
     close_own(client), cindrolf_close_own, answer::progress => Progress
 }
 
-/// The client adds an entry to its ledger whose value is the sum of the parts of these scores, and is answered the
-/// entry's number. The scores may be any numbers, and any number of them.
-pub fn write_scores(state: &mut [u64], entries: &mut [u64], client: u64, scores: &[u16]) -> Result<EntryNumber, Error> {
+/// The client adds an entry to its ledger whose value is the sum of the parts of these scores, and is answered as by
+/// [`write`](write()). The scores may be any numbers, and any number of them.
+pub fn write_scores(state: &mut [u64], entries: &mut [u64], client: u64, scores: &[u16]) -> Result<Position, Error> {
     // SAFETY: the state and the entries are exclusive, the scores are only read, and the client is any number.
     let number = unsafe {
         raw::cindrolf_write_scores(

@@ -10,14 +10,14 @@
 //! Two controllers, of which the second takes over the lead:
 //!
 //! ```
-//! use cindrolf::{CloseLast, EntryNumber, Error, Log, Progress, Refusal, client_of, value_of};
+//! use cindrolf::{CloseLast, EntryNumber, Error, LedgerPlace, Log, Position, Progress, Refusal, client_of, value_of};
 //!
 //! let mut log = Log::fresh(3)?;
 //! log.become_leader(0)?;
 //! log.fetch(0)?;
 //! log.create(0)?;
 //! assert_eq!(log.append(0)?, Progress::Done);
-//! assert_eq!(log.write(0, 7)?, EntryNumber(0));
+//! assert_eq!(log.write(0, 7)?, Position { number: EntryNumber(0), place: LedgerPlace(0) });
 //!
 //! log.name(1)?;
 //! log.become_leader(1)?;
@@ -27,7 +27,7 @@
 //! assert_eq!(log.write(0, 8), Err(Error::Refused(Refusal::LedgerFenced)));
 //! log.create(1)?;
 //! assert_eq!(log.append(1)?, Progress::Done);
-//! assert_eq!(log.write(1, 9)?, EntryNumber(1));
+//! assert_eq!(log.write(1, 9)?, Position { number: EntryNumber(1), place: LedgerPlace(0) });
 //! assert_eq!(log.close_own(0)?, Progress::Behind);
 //!
 //! let mut output = [0; cindrolf::ENTRY_WORDS];
@@ -48,7 +48,7 @@
 //! log.fetch(0)?;
 //! log.create(0)?;
 //! let _ = log.append(0)?;
-//! assert_eq!(log.write_scores(0, &[40, 40, 372])?, EntryNumber(0));
+//! assert_eq!(log.write_scores(0, &[40, 40, 372])?.number, EntryNumber(0));
 //! assert_eq!(value_of(log.entries()[0]), 200_000_000_501);
 //! assert_eq!(log.write_scores(0, &[40, 373]), Err(Error::Refused(Refusal::ScoreTooHigh)));
 //! # Ok::<(), Error>(())
@@ -63,7 +63,7 @@ pub mod raw;
 mod version;
 mod view;
 
-pub use answer::{CloseLast, EntryNumber, LedgerNumber, Progress};
+pub use answer::{CloseLast, EntryNumber, LedgerNumber, LedgerPlace, Position, Progress};
 pub use error::{Error, Refusal};
 pub use log::{Log, LogMut, LogRef};
 pub use version::{VERSION, check_version};

@@ -1,8 +1,7 @@
 //! A log that owns its buffers, and logs that borrow them.
 
 use crate::{
-    CloseLast, ENTRY_WORDS, EntryNumber, Error, LedgerNumber, Progress, Refusal, STATE_WORDS, View, calls,
-    check_version,
+    CloseLast, ENTRY_WORDS, Error, LedgerNumber, Position, Progress, Refusal, STATE_WORDS, View, calls, check_version,
 };
 
 /// A log that owns its two buffers.
@@ -221,15 +220,16 @@ macro_rules! operations {
                 calls::append(&mut self.state, &mut self.entries, client)
             }
 
-            /// The client adds an entry to its ledger, and is answered the entry's number.
-            pub fn write(&mut self, client: u64, value: u64) -> Result<EntryNumber, Error> {
+            /// The client adds an entry to its ledger, and is answered the entry's number and its place in that
+            /// ledger.
+            pub fn write(&mut self, client: u64, value: u64) -> Result<Position, Error> {
                 calls::write(&mut self.state, &mut self.entries, client, value)
             }
 
             /// The client adds an entry to its ledger whose value is the sum of the parts of these scores, and is
-            /// answered the entry's number. There are 1 to [`SCORES_LIMIT`](crate::SCORES_LIMIT) scores, none above
-            /// [`HIGHEST_SCORE`](crate::HIGHEST_SCORE); of any others a refusal says so.
-            pub fn write_scores(&mut self, client: u64, scores: &[u16]) -> Result<EntryNumber, Error> {
+            /// answered as by [`write`](Self::write). There are 1 to [`SCORES_LIMIT`](crate::SCORES_LIMIT) scores, none
+            /// above [`HIGHEST_SCORE`](crate::HIGHEST_SCORE); of any others a refusal says so.
+            pub fn write_scores(&mut self, client: u64, scores: &[u16]) -> Result<Position, Error> {
                 calls::write_scores(&mut self.state, &mut self.entries, client, scores)
             }
 

@@ -1,10 +1,16 @@
 //! The reference's examples through the crate, on the proved library.
 
-use cindrolf::{CloseLast, ENTRY_WORDS, EntryNumber, Error, LedgerNumber, Log, LogMut, Progress, Refusal};
-use cindrolf::{HIGHEST_SCORE, SCORES_LIMIT, STATE_WORDS, calls, ledger_of, value_of};
+use cindrolf::{
+    CloseLast, ENTRY_WORDS, EntryNumber, Error, LedgerNumber, LedgerPlace, Log, LogMut, Position, Progress,
+};
+use cindrolf::{HIGHEST_SCORE, Refusal, SCORES_LIMIT, STATE_WORDS, calls, ledger_of, value_of};
 
 fn refused<T>(refusal: Refusal) -> Result<T, Error> {
     Err(Error::Refused(refusal))
+}
+
+fn at(number: u64, place: u64) -> Result<Position, Error> {
+    Ok(Position { number: EntryNumber(number), place: LedgerPlace(place) })
 }
 
 fn writing(clients: u64) -> Log {
@@ -27,7 +33,7 @@ fn marked() {
     let mut log = writing(3);
     assert_eq!(log.close_own(0), refused(Refusal::LedgerEmpty));
     assert_eq!(log.write(0, 1 << 52), refused(Refusal::ValueTooWide));
-    assert_eq!(log.write(0, (1 << 52) - 1), Ok(EntryNumber(0)));
+    assert_eq!(log.write(0, (1 << 52) - 1), at(0, 0));
     assert_eq!(log.close_own(0), Ok(Progress::Done));
     assert_eq!(log.state()[17], 0x0080000000000000);
 }
@@ -47,7 +53,7 @@ fn lengths_and_counts() {
 fn full() {
     let mut log = writing(1);
     for entry in 0..ENTRY_WORDS as u64 {
-        assert_eq!(log.write(0, entry), Ok(EntryNumber(entry)));
+        assert_eq!(log.write(0, entry), at(entry, entry));
     }
     let before = log.clone();
     assert_eq!(log.write(0, 0), refused(Refusal::LogFull));
@@ -60,6 +66,22 @@ fn full() {
     assert_eq!(log.read_chain(&mut output[1..]), refused(Refusal::OutputTooShort));
     assert_eq!(output, [0; ENTRY_WORDS]);
     assert_eq!(log.read_chain(&mut output), Ok(ENTRY_WORDS));
+}
+
+// Numbers go on over the whole log, and places begin anew in each ledger.
+#[test]
+fn places() {
+    let mut log = writing(2);
+    assert_eq!(log.write(0, 1), at(0, 0));
+    assert_eq!(log.write_scores(0, &[40]), at(1, 1));
+    assert_eq!(log.close_own(0), Ok(Progress::Done));
+    assert_eq!(log.create(0), Ok(()));
+    assert_eq!(log.append(0), Ok(Progress::Done));
+    assert_eq!(log.write_scores(0, &[40]), at(2, 0));
+    assert_eq!(log.write(0, 1 << 52), refused(Refusal::ValueTooWide));
+    assert_eq!(log.write(0, 1), at(3, 1));
+    let part = log.read_ledger(LedgerNumber(2)).unwrap();
+    assert_eq!(part, &log.entries()[2..4]);
 }
 
 #[test]
@@ -79,7 +101,7 @@ fn borrowed() {
 fn scores() {
     let written = |scores: &[u16]| {
         let mut log = writing(1);
-        assert_eq!(log.write_scores(0, scores), Ok(EntryNumber(0)));
+        assert_eq!(log.write_scores(0, scores), at(0, 0));
         value_of(log.entries()[0])
     };
     assert_eq!(written(&[0]), 1_000_000_000_000);

@@ -194,12 +194,13 @@ fn numbered(number: u64) -> Answer {
 }
 
 fn library_step(state: &mut [u64], entries: &mut [u64], client: u64, step: Step) -> Answer {
-    use cindrolf::{CloseLast, Progress, calls};
+    use cindrolf::{CloseLast, Position, Progress, calls};
     let close_last = |given| match given {
         CloseLast::Done => Answer::Done,
         CloseLast::WasClosed => Answer::WasClosed,
         CloseLast::Behind => Answer::Behind,
     };
+    let entry = |at: Position| Answer::Entry { number: at.number.0, place: at.place.0 };
     let progress = |given| match given {
         Progress::Done => Answer::Done,
         Progress::Behind => Answer::Behind,
@@ -212,12 +213,10 @@ fn library_step(state: &mut [u64], entries: &mut [u64], client: u64, step: Step)
         Step::CloseLast => calls::close_last(state, entries, client).map_or_else(failed, close_last),
         Step::Create => calls::create(state, entries, client).map_or_else(failed, done),
         Step::Append => calls::append(state, entries, client).map_or_else(failed, progress),
-        Step::Write(value) => {
-            calls::write(state, entries, client, value).map_or_else(failed, |entry| Answer::Entry(entry.0))
+        Step::Write(value) => calls::write(state, entries, client, value).map_or_else(failed, entry),
+        Step::WriteScores(scores) => {
+            with_scores(scores, |scores| calls::write_scores(state, entries, client, scores).map_or_else(failed, entry))
         }
-        Step::WriteScores(scores) => with_scores(scores, |scores| {
-            calls::write_scores(state, entries, client, scores).map_or_else(failed, |entry| Answer::Entry(entry.0))
-        }),
         Step::CloseOwn => calls::close_own(state, entries, client).map_or_else(failed, progress),
     }
 }

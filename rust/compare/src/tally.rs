@@ -86,7 +86,7 @@ fn column(outcome: &Outcome) -> usize {
         (_, Some(Answer::Done)) => DONE,
         (_, Some(Answer::WasClosed)) => WAS_CLOSED,
         (_, Some(Answer::Behind)) => BEHIND,
-        (_, Some(Answer::Entry(_))) => ENTRY,
+        (_, Some(Answer::Entry { .. })) => ENTRY,
         (Outcome::WellFormed(true), None) => YES,
         (_, None) => NO,
     }

@@ -26,7 +26,7 @@ fn history(report: &str) -> Vec<&str> {
 fn refuses_unnamed(call: Call, lent: &mut Lent) -> Outcome {
     if let Call::Step(client, Step::Write(_)) = call
         && Head::load(lent.state[0]).0.leader != client
-        && let Outcome::Answer(Answer::Entry(_)) = on_copies(call, lent)
+        && let Outcome::Answer(Answer::Entry { .. }) = on_copies(call, lent)
     {
         return Outcome::Answer(Answer::Refused(6));
     }
@@ -112,6 +112,14 @@ fn refused_with_a_count(call: Call, lent: &mut Lent) -> Outcome {
     }
 }
 
+// The place that a write answers is counted in the whole log, which shows only from a second ledger on.
+fn place_in_the_log(call: Call, lent: &mut Lent) -> Outcome {
+    match call::model(call, lent) {
+        Outcome::Answer(Answer::Entry { number, .. }) => Outcome::Answer(Answer::Entry { number, place: number }),
+        outcome => outcome,
+    }
+}
+
 // The last score is not looked at.
 fn skips_the_last_score(call: Call, lent: &mut Lent) -> Outcome {
     match call {
@@ -152,6 +160,17 @@ fn finds_a_refused_write() {
     // A client leads, another is named, the first writes.
     assert!(history(&report).len() <= 7, "{report}");
     assert!(report.contains("Refused(6)"), "{report}");
+}
+
+#[test]
+fn finds_a_wrong_place() {
+    let report = first(histories::compare, place_in_the_log, 100).expect("the fault is found");
+    // A client writes, closes its ledger, and writes to its next.
+    assert!(history(&report).len() <= 14, "{report}");
+    assert!(
+        report.contains("Entry { number: 1, place: 1 }), the model Answer(Entry { number: 1, place: 0 })"),
+        "{report}"
+    );
 }
 
 #[test]

@@ -1,6 +1,6 @@
 //! The library's part of every score, against the rule worked out on whole numbers.
 
-use cindrolf::{EntryNumber, HIGHEST_SCORE, Log, Progress};
+use cindrolf::{EntryNumber, HIGHEST_SCORE, LedgerPlace, Log, Position, Progress};
 use model::scores::part;
 
 #[test]
@@ -11,7 +11,8 @@ fn every_part() {
     }
     assert_eq!(log.append(0), Ok(Progress::Done));
     for score in 0..=HIGHEST_SCORE {
-        assert_eq!(log.write_scores(0, &[score]), Ok(EntryNumber(u64::from(score))));
+        let (number, place) = (EntryNumber(u64::from(score)), LedgerPlace(u64::from(score)));
+        assert_eq!(log.write_scores(0, &[score]), Ok(Position { number, place }));
     }
     let view = log.view();
     for score in 0..=HIGHEST_SCORE {

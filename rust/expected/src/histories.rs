@@ -119,7 +119,7 @@ fn index(answer: Answer) -> usize {
         Answer::Done => 0,
         Answer::WasClosed => 1,
         Answer::Behind => 2,
-        Answer::Entry(_) => 3,
+        Answer::Entry { .. } => 3,
         Answer::Refused(number) => 4 + number as usize,
     }
 }

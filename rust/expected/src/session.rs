@@ -63,7 +63,7 @@ pub fn answer(answer: Answer) -> String {
         Answer::Done => "ok".into(),
         Answer::WasClosed => "was".into(),
         Answer::Behind => "behind".into(),
-        Answer::Entry(number) => format!("entry {number}"),
+        Answer::Entry { number, place } => format!("entry {number} place {place}"),
         Answer::Refused(number) => format!("ref {number}"),
     }
 }

@@ -7,13 +7,13 @@ use expected::session::transcript;
 const WHOLE: &[(&str, &str)] = &[
     (
         "session_of_01",
-        "1 ok | 2 ok | 3 ok | 4 ok | 5 entry 0 | 6 ok | 7 ok | 8 ok | 9 ok | 10 ref 12 | 11 ok | 12 ok | \
-         13 entry 1 | 14 behind | chain 0:7 1:9",
+        "1 ok | 2 ok | 3 ok | 4 ok | 5 entry 0 place 0 | 6 ok | 7 ok | 8 ok | 9 ok | 10 ref 12 | 11 ok | \
+         12 ok | 13 entry 1 place 0 | 14 behind | chain 0:7 1:9",
     ),
     (
         "session_of_01_write_after",
-        "1 ok | 2 ok | 3 ok | 4 ok | 5 entry 0 | 6 ok | 7 ok | 8 ok | 9 ok | 10 ref 12 | 11 ok | 12 ok | \
-         13 entry 1 | 14 ref 12 | chain 0:7 1:9",
+        "1 ok | 2 ok | 3 ok | 4 ok | 5 entry 0 place 0 | 6 ok | 7 ok | 8 ok | 9 ok | 10 ref 12 | 11 ok | \
+         12 ok | 13 entry 1 place 0 | 14 ref 12 | chain 0:7 1:9",
     ),
     ("empty_input", "bad start"),
     ("start_unended", "bad start"),
@@ -24,25 +24,30 @@ const WHOLE: &[(&str, &str)] = &[
     ("bad_start_259", "bad start"),
     ("bad_start_2_64_plus_3", "bad start"),
     ("start_1_alone", "chain"),
-    ("start_1", "1 ref 3 | 2 ref 3 | 3 ref 4 | 4 ok | 5 ok | 6 ok | 7 ok | 8 entry 0 | 9 ref 4 | 10 ok | chain 0:5"),
-    ("start_16", "1 ok | 2 ok | 3 ok | 4 ok | 5 ok | 6 entry 0 | 7 ref 3 | 8 ref 3 | 9 ref 3 | chain 15:5"),
+    (
+        "start_1",
+        "1 ref 3 | 2 ref 3 | 3 ref 4 | 4 ok | 5 ok | 6 ok | 7 ok | 8 entry 0 place 0 | 9 ref 4 | 10 ok | \
+         chain 0:5",
+    ),
+    ("start_16", "1 ok | 2 ok | 3 ok | 4 ok | 5 ok | 6 entry 0 place 0 | 7 ref 3 | 8 ref 3 | 9 ref 3 | chain 15:5"),
     ("line_empty", "1 bad line | 2 ok | 3 bad line | chain"),
     ("line_client_256", "1 bad line | 2 ok | chain"),
     ("line_letter_k", "1 bad line | 2 ok | chain"),
     (
         "line_value_unwanted",
         "1 bad line | 2 bad line | 3 ok | 4 bad line | 5 bad line | 6 ok | 7 bad line | 8 ok | 9 bad line | \
-         10 ok | 11 entry 0 | 12 bad line | 13 ok | 14 ok | 15 ok | 16 ok | 17 bad line | 18 was | chain 0:1",
+         10 ok | 11 entry 0 place 0 | 12 bad line | 13 ok | 14 ok | 15 ok | 16 ok | 17 bad line | 18 was | \
+         chain 0:1",
     ),
-    ("value_missing", "1 ok | 2 ok | 3 ok | 4 ok | 5 bad line | 6 entry 0 | chain 0:1"),
-    ("value_2_64", "1 ok | 2 ok | 3 ok | 4 ok | 5 bad line | 6 entry 0 | chain 0:1"),
-    ("value_2_64_minus_1", "1 ok | 2 ok | 3 ok | 4 ok | 5 ref 11 | 6 entry 0 | chain 0:1"),
-    ("value_2_52", "1 ok | 2 ok | 3 ok | 4 ok | 5 ref 11 | 6 entry 0 | chain 0:1"),
-    ("value_2_52_minus_1", "1 ok | 2 ok | 3 ok | 4 ok | 5 entry 0 | chain 0:4503599627370495"),
+    ("value_missing", "1 ok | 2 ok | 3 ok | 4 ok | 5 bad line | 6 entry 0 place 0 | chain 0:1"),
+    ("value_2_64", "1 ok | 2 ok | 3 ok | 4 ok | 5 bad line | 6 entry 0 place 0 | chain 0:1"),
+    ("value_2_64_minus_1", "1 ok | 2 ok | 3 ok | 4 ok | 5 ref 11 | 6 entry 0 place 0 | chain 0:1"),
+    ("value_2_52", "1 ok | 2 ok | 3 ok | 4 ok | 5 ref 11 | 6 entry 0 place 0 | chain 0:1"),
+    ("value_2_52_minus_1", "1 ok | 2 ok | 3 ok | 4 ok | 5 entry 0 place 0 | chain 0:4503599627370495"),
     (
         "value_edges_client_15",
-        "1 ok | 2 ok | 3 ok | 4 ok | 5 ok | 6 entry 0 | 7 entry 1 | 8 entry 2 | 9 ref 11 | 10 entry 3 | \
-         11 ok | chain 15:0 15:1 15:4503599627370495 15:2251799813685248",
+        "1 ok | 2 ok | 3 ok | 4 ok | 5 ok | 6 entry 0 place 0 | 7 entry 1 place 1 | 8 entry 2 place 2 | \
+         9 ref 11 | 10 entry 3 place 3 | 11 ok | chain 15:0 15:1 15:4503599627370495 15:2251799813685248",
     ),
     ("end_unended_step", "1 ok | 2 bad line | chain"),
     ("end_unended_write", "1 ok | 2 ok | 3 ok | 4 ok | 5 bad line | chain"),
@@ -66,33 +71,37 @@ const WHOLE: &[(&str, &str)] = &[
     ("ref_8_stage_4", "1 ok | 2 ok | 3 ok | 4 ref 8 | 5 ref 8 | 6 ref 8 | 7 ref 8 | 8 ref 8 | 9 ok | chain"),
     (
         "ref_8_stage_5",
-        "1 ok | 2 ok | 3 ok | 4 ok | 5 ref 8 | 6 ref 8 | 7 ref 8 | 8 ref 8 | 9 entry 0 | 10 ok | chain 0:1",
+        "1 ok | 2 ok | 3 ok | 4 ok | 5 ref 8 | 6 ref 8 | 7 ref 8 | 8 ref 8 | 9 entry 0 place 0 | 10 ok | chain 0:1",
     ),
     (
         "ref_11_before_12",
-        "1 ok | 2 ok | 3 ok | 4 ok | 5 entry 0 | 6 ok | 7 ok | 8 ok | 9 ok | 10 ref 11 | 11 ref 12 | chain 0:1",
+        "1 ok | 2 ok | 3 ok | 4 ok | 5 entry 0 place 0 | 6 ok | 7 ok | 8 ok | 9 ok | 10 ref 11 | 11 ref 12 | chain 0:1",
     ),
-    ("ref_12", "1 ok | 2 ok | 3 ok | 4 ok | 5 ok | 6 ok | 7 ok | 8 entry 0 | 9 ok | 10 ref 12 | 11 ref 12 | chain 0:1"),
+    (
+        "ref_12",
+        "1 ok | 2 ok | 3 ok | 4 ok | 5 ok | 6 ok | 7 ok | 8 entry 0 place 0 | 9 ok | 10 ref 12 | 11 ref 12 | \
+         chain 0:1",
+    ),
     (
         "ref_12_others_wrote",
-        "1 ok | 2 ok | 3 ok | 4 ok | 5 entry 0 | 6 ok | 7 ok | 8 ok | 9 ok | 10 ok | 11 ok | 12 entry 1 | \
-         13 ref 12 | 14 entry 2 | 15 ref 12 | chain 0:1 1:2 1:4",
+        "1 ok | 2 ok | 3 ok | 4 ok | 5 entry 0 place 0 | 6 ok | 7 ok | 8 ok | 9 ok | 10 ok | 11 ok | \
+         12 entry 1 place 0 | 13 ref 12 | 14 entry 2 place 1 | 15 ref 12 | chain 0:1 1:2 1:4",
     ),
-    ("ref_14", "1 ok | 2 ok | 3 ok | 4 ok | 5 ref 14 | 6 ref 14 | 7 entry 0 | 8 ok | chain 0:1"),
+    ("ref_14", "1 ok | 2 ok | 3 ok | 4 ok | 5 ref 14 | 6 ref 14 | 7 entry 0 place 0 | 8 ok | chain 0:1"),
     (
         "ref_14_second_ledger",
-        "1 ok | 2 ok | 3 ok | 4 ok | 5 entry 0 | 6 ok | 7 ok | 8 ok | 9 ref 14 | 10 entry 1 | 11 ok | \
-         chain 0:1 0:2",
+        "1 ok | 2 ok | 3 ok | 4 ok | 5 entry 0 place 0 | 6 ok | 7 ok | 8 ok | 9 ref 14 | 10 entry 1 place 0 | \
+         11 ok | chain 0:1 0:2",
     ),
     (
         "stale_write_before_fence",
-        "1 ok | 2 ok | 3 ok | 4 ok | 5 ok | 6 entry 0 | 7 ok | 8 entry 1 | 9 ok | 10 entry 2 | 11 ok | \
-         12 ref 12 | chain 0:1 0:2 0:3",
+        "1 ok | 2 ok | 3 ok | 4 ok | 5 ok | 6 entry 0 place 0 | 7 ok | 8 entry 1 place 1 | 9 ok | \
+         10 entry 2 place 2 | 11 ok | 12 ref 12 | chain 0:1 0:2 0:3",
     ),
     (
         "stale_close_own",
-        "1 ok | 2 ok | 3 ok | 4 ok | 5 entry 0 | 6 ok | 7 ok | 8 ok | 9 ok | 10 behind | 11 ref 7 | \
-         12 ref 7 | 13 ok | 14 ok | 15 entry 1 | chain 0:1 1:3",
+        "1 ok | 2 ok | 3 ok | 4 ok | 5 entry 0 place 0 | 6 ok | 7 ok | 8 ok | 9 ok | 10 behind | 11 ref 7 | \
+         12 ref 7 | 13 ok | 14 ok | 15 entry 1 place 0 | chain 0:1 1:3",
     ),
     (
         "stale_close_own_empty",
@@ -101,63 +110,63 @@ const WHOLE: &[(&str, &str)] = &[
     (
         "append_behind",
         "1 ok | 2 ok | 3 ok | 4 ok | 5 ok | 6 ok | 7 ok | 8 ok | 9 behind | 10 ref 7 | 11 ref 7 | \
-         12 entry 0 | chain 1:2",
+         12 entry 0 place 0 | chain 1:2",
     ),
     (
         "close_last_behind",
-        "1 ok | 2 ok | 3 ok | 4 ok | 5 entry 0 | 6 ok | 7 ok | 8 ok | 9 ok | 10 ok | 11 ok | 12 ok | \
-         13 behind | 14 ref 8 | 15 ref 8 | 16 ok | 17 was | 18 ok | 19 ok | 20 entry 1 | chain 0:1 2:2",
+        "1 ok | 2 ok | 3 ok | 4 ok | 5 entry 0 place 0 | 6 ok | 7 ok | 8 ok | 9 ok | 10 ok | 11 ok | 12 ok | \
+         13 behind | 14 ref 8 | 15 ref 8 | 16 ok | 17 was | 18 ok | 19 ok | 20 entry 1 place 0 | chain 0:1 2:2",
     ),
     (
         "close_last_behind_not_fenced",
-        "1 ok | 2 ok | 3 ok | 4 ok | 5 entry 0 | 6 ok | 7 ok | 8 ok | 9 ok | 10 behind | 11 ok | 12 ok | \
-         13 entry 1 | 14 ok | 15 ok | 16 ref 12 | chain 0:1 0:2",
+        "1 ok | 2 ok | 3 ok | 4 ok | 5 entry 0 place 0 | 6 ok | 7 ok | 8 ok | 9 ok | 10 behind | 11 ok | \
+         12 ok | 13 entry 1 place 0 | 14 ok | 15 ok | 16 ref 12 | chain 0:1 0:2",
     ),
     (
         "close_last_was_list_moved",
-        "1 ok | 2 ok | 3 ok | 4 ok | 5 entry 0 | 6 ok | 7 ok | 8 ok | 9 ok | 10 ok | 11 ok | 12 ok | 13 ok | \
-         14 was | 15 ok | 16 behind | 17 ok | 18 ok | 19 ok | 20 ok | 21 ok | 22 entry 1 | 23 ref 12 | \
-         chain 0:1 1:2",
+        "1 ok | 2 ok | 3 ok | 4 ok | 5 entry 0 place 0 | 6 ok | 7 ok | 8 ok | 9 ok | 10 ok | 11 ok | 12 ok | \
+         13 ok | 14 was | 15 ok | 16 behind | 17 ok | 18 ok | 19 ok | 20 ok | 21 ok | 22 entry 1 place 0 | \
+         23 ref 12 | chain 0:1 1:2",
     ),
     (
         "close_last_behind_other_writes",
-        "1 ok | 2 ok | 3 ok | 4 ok | 5 entry 0 | 6 ok | 7 ok | 8 ok | 9 ok | 10 ok | 11 ok | 12 ok | 13 ok | \
-         14 ok | 15 behind | 16 entry 1 | 17 ok | 18 entry 2 | chain 0:1 2:2 2:3",
+        "1 ok | 2 ok | 3 ok | 4 ok | 5 entry 0 place 0 | 6 ok | 7 ok | 8 ok | 9 ok | 10 ok | 11 ok | 12 ok | \
+         13 ok | 14 ok | 15 behind | 16 entry 1 place 0 | 17 ok | 18 entry 2 place 1 | chain 0:1 2:2 2:3",
     ),
     (
         "three_race",
         "1 ok | 2 ok | 3 ok | 4 ok | 5 ok | 6 ok | 7 ok | 8 ok | 9 ok | 10 ok | 11 ok | 12 ok | 13 behind | \
-         14 behind | 15 entry 0 | 16 ref 7 | 17 ref 7 | chain 1:1",
+         14 behind | 15 entry 0 place 0 | 16 ref 7 | 17 ref 7 | chain 1:1",
     ),
     (
         "gap_second_appends_first",
-        "1 ok | 2 ok | 3 ok | 4 ok | 5 ok | 6 ok | 7 ok | 8 ok | 9 entry 0 | 10 behind | 11 ok | 12 ok | \
-         13 ok | 14 entry 1 | chain 1:5 1:6",
+        "1 ok | 2 ok | 3 ok | 4 ok | 5 ok | 6 ok | 7 ok | 8 ok | 9 entry 0 place 0 | 10 behind | 11 ok | \
+         12 ok | 13 ok | 14 entry 1 place 0 | chain 1:5 1:6",
     ),
     (
         "abdicate_return_empty_list",
         "1 ok | 2 ok | 3 ok | 4 ok | 5 ok | 6 ok | 7 ok | 8 ref 8 | 9 ok | 10 ref 8 | 11 ok | 12 ok | \
-         13 entry 0 | chain 0:1",
+         13 entry 0 place 0 | chain 0:1",
     ),
     (
         "abdicate_return_old_memory",
-        "1 ok | 2 ok | 3 ok | 4 ok | 5 entry 0 | 6 ok | 7 ok | 8 ok | 9 ok | 10 ref 8 | 11 ref 8 | 12 ok | \
-         13 ref 8 | 14 ok | 15 ok | 16 ok | 17 entry 1 | chain 0:1 0:3",
+        "1 ok | 2 ok | 3 ok | 4 ok | 5 entry 0 place 0 | 6 ok | 7 ok | 8 ok | 9 ok | 10 ref 8 | 11 ref 8 | \
+         12 ok | 13 ref 8 | 14 ok | 15 ok | 16 ok | 17 entry 1 place 0 | chain 0:1 0:3",
     ),
     (
         "own_close_no_fetch",
-        "1 ok | 2 ok | 3 ok | 4 ok | 5 entry 0 | 6 ok | 7 ok | 8 ok | 9 entry 1 | 10 ok | 11 ok | 12 ok | \
-         13 entry 2 | 14 entry 3 | 15 ok | chain 0:1 0:2 0:3 0:4",
+        "1 ok | 2 ok | 3 ok | 4 ok | 5 entry 0 place 0 | 6 ok | 7 ok | 8 ok | 9 entry 1 place 0 | 10 ok | \
+         11 ok | 12 ok | 13 entry 2 place 0 | 14 entry 3 place 1 | 15 ok | chain 0:1 0:2 0:3 0:4",
     ),
     (
         "own_close_other_appends",
-        "1 ok | 2 ok | 3 ok | 4 ok | 5 entry 0 | 6 ok | 7 ok | 8 ok | 9 ok | 10 was | 11 ok | 12 ok | 13 ok | \
-         14 behind | 15 entry 1 | 16 ok | 17 ok | chain 0:1 1:2",
+        "1 ok | 2 ok | 3 ok | 4 ok | 5 entry 0 place 0 | 6 ok | 7 ok | 8 ok | 9 ok | 10 was | 11 ok | 12 ok | \
+         13 ok | 14 behind | 15 entry 1 place 0 | 16 ok | 17 ok | chain 0:1 1:2",
     ),
     (
         "chain_same_value",
-        "1 ok | 2 ok | 3 ok | 4 ok | 5 entry 0 | 6 entry 1 | 7 entry 2 | 8 ok | 9 ok | 10 ok | 11 ok | \
-         12 ok | 13 ok | 14 entry 3 | 15 entry 4 | chain 0:1 0:1 0:1 1:1 1:1",
+        "1 ok | 2 ok | 3 ok | 4 ok | 5 entry 0 place 0 | 6 entry 1 place 1 | 7 entry 2 place 2 | 8 ok | 9 ok | \
+         10 ok | 11 ok | 12 ok | 13 ok | 14 entry 3 place 0 | 15 entry 4 place 1 | chain 0:1 0:1 0:1 1:1 1:1",
     ),
     ("bytes_16384", "1 ok | 2 bad line | 3 ok | chain"),
     ("bytes_16384_unended", "1 ok | 2 bad line | 3 bad line | chain"),
@@ -171,35 +180,39 @@ fn ends() -> Vec<(&'static str, &'static str, String)> {
     vec![
         (
             "ledgers_255_own",
-            "1021 entry 254 | 1022 ok | 1023 ref 10 | 1024 ref 8 | 1025 ref 8 | 1026 ref 8 | chain",
+            "1021 entry 254 place 0 | 1022 ok | 1023 ref 10 | 1024 ref 8 | 1025 ref 8 | 1026 ref 8 | chain",
             " 0:1".repeat(255),
         ),
         (
             "ledger_255_alone",
-            "1526 ok | 1527 ok | 1528 ok | 1529 entry 0 | 1530 entry 1 | 1531 ok | 1532 ref 10 | 1533 ok | \
-             1534 ok | 1535 ok | 1536 was | 1537 ref 10 | chain",
+            "1526 ok | 1527 ok | 1528 ok | 1529 entry 0 place 0 | 1530 entry 1 place 1 | 1531 ok | \
+             1532 ref 10 | 1533 ok | 1534 ok | 1535 ok | 1536 was | 1537 ref 10 | chain",
             " 0:5 0:6".into(),
         ),
         (
             "ledger_255_order_of_10",
-            "1526 ok | 1527 ok | 1528 ref 8 | 1529 ok | 1530 ref 8 | 1531 ref 7 | 1532 ref 3 | 1533 entry 0 | \
-             1534 ok | 1535 ref 10 | 1536 ok | 1537 ok | 1538 ref 8 | 1539 ok | 1540 ref 8 | 1541 was | \
-             1542 ref 10 | chain",
+            "1526 ok | 1527 ok | 1528 ref 8 | 1529 ok | 1530 ref 8 | 1531 ref 7 | 1532 ref 3 | \
+             1533 entry 0 place 0 | 1534 ok | 1535 ref 10 | 1536 ok | 1537 ok | 1538 ref 8 | 1539 ok | \
+             1540 ref 8 | 1541 was | 1542 ref 10 | chain",
             " 0:5".into(),
         ),
         (
             "ledgers_254_behind_by_254",
-            "1021 entry 253 | 1022 behind | 1023 entry 254 | 1024 ok | 1025 ref 10 | chain",
+            "1021 entry 253 place 0 | 1022 behind | 1023 entry 254 place 1 | 1024 ok | 1025 ref 10 | chain",
             " 0:1".repeat(254) + " 0:2",
         ),
         (
             "ledgers_254_race",
-            "1013 entry 252 | 1014 ok | 1015 ok | 1016 ok | 1017 ok | 1018 was | 1019 ok | 1020 ok | \
-             1021 ok | 1022 behind | 1023 entry 253 | 1024 ok | 1025 ref 10 | chain",
+            "1013 entry 252 place 0 | 1014 ok | 1015 ok | 1016 ok | 1017 ok | 1018 was | 1019 ok | 1020 ok | \
+             1021 ok | 1022 behind | 1023 entry 253 place 0 | 1024 ok | 1025 ref 10 | chain",
             " 0:1".repeat(253) + " 1:2",
         ),
         ("bytes_16384_empty_lines", "16380 bad line | 16381 bad line | 16382 bad line | chain", String::new()),
-        ("bytes_16384_writes", "2730 entry 2725 | 2731 entry 2726 | 2732 ok | chain", " 0:0".repeat(2727)),
+        (
+            "bytes_16384_writes",
+            "2730 entry 2725 place 2725 | 2731 entry 2726 place 2726 | 2732 ok | chain",
+            " 0:0".repeat(2727),
+        ),
     ]
 }
 

@@ -3,6 +3,7 @@
 use expected::files::{input, input_names, root};
 use expected::log::Log;
 use expected::session::{Session, answer, step, transcript};
+use expected::total::output;
 use model::source::{Source, Status};
 use std::collections::BTreeSet;
 
@@ -85,15 +86,37 @@ fn what_002_keeps() {
     });
 }
 
+/// The numbers and the places of the entries in a transcript.
+fn positions(text: &str) -> (Vec<usize>, Vec<usize>) {
+    let number = |digits: &str| digits.parse::<usize>().unwrap();
+    let position = |line: &str| {
+        let (entry, place) = line.split_once(" entry ")?.1.split_once(" place ").expect("both are printed");
+        Some((number(entry), number(place)))
+    };
+    text.lines().filter_map(position).unzip()
+}
+
 #[test]
 fn entries_are_numbered_in_order() {
     for name in input_names().unwrap() {
         let text = transcript(&input(&name).unwrap());
-        let numbers: Vec<_> = text.lines().filter_map(|line| line.split_once(" entry ")).map(|(_, n)| n).collect();
-        assert!(numbers.iter().enumerate().all(|(index, number)| index.to_string() == **number), "{name}");
+        let (numbers, _) = positions(&text);
+        assert!(numbers.iter().copied().eq(0..numbers.len()), "{name}");
         if let Some(chain) = text.lines().last().filter(|line| line.starts_with("chain")) {
             assert_eq!(chain.split(' ').count() - 1, numbers.len(), "{name}");
         }
+    }
+}
+
+// The run total says how many entries each ledger has; each ledger's are done before the next one's begin.
+#[test]
+fn places_begin_anew_in_each_ledger() {
+    for name in input_names().unwrap() {
+        let input = input(&name).unwrap();
+        let ledgers = output(&input);
+        let counts = ledgers.lines().filter_map(|line| line.split(" entries ").nth(1)?.split(' ').next());
+        let places = counts.flat_map(|count| 0..count.parse::<usize>().unwrap());
+        assert!(positions(&transcript(&input)).1.into_iter().eq(places), "{name}");
     }
 }
 

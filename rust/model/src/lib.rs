@@ -22,8 +22,13 @@ pub enum Answer {
     WasClosed,
     /// Another client was faster.
     Behind,
-    /// The write became the entry with this number.
-    Entry(u64),
+    /// The write became an entry.
+    Entry {
+        /// Its number in the log, from 0.
+        number: u64,
+        /// Its place in its ledger, from 0.
+        place: u64,
+    },
     /// Nothing was done.
     Refused(u64),
 }

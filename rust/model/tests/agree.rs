@@ -64,7 +64,7 @@ fn session() {
         (0, Step::Fetch, Done),
         (0, Step::Create, Done),
         (0, Step::Append, Done),
-        (0, Step::Write(7), Entry(0)),
+        (0, Step::Write(7), Entry { number: 0, place: 0 }),
         (1, Step::Name, Done),
         (1, Step::Become, Done),
         (1, Step::Fetch, Done),
@@ -72,7 +72,7 @@ fn session() {
         (0, Step::Write(8), Refused(12)),
         (1, Step::Create, Done),
         (1, Step::Append, Done),
-        (1, Step::Write(9), Entry(1)),
+        (1, Step::Write(9), Entry { number: 1, place: 0 }),
         (0, Step::CloseOwn, Behind),
     ];
     for (client, step, expected) in steps {
@@ -97,7 +97,7 @@ fn examples() {
     }
     assert_eq!(step(0, Step::CloseOwn), Answer::Refused(14));
     assert_eq!(step(0, Step::Write(1 << 52)), Answer::Refused(11));
-    assert_eq!(step(0, Step::Write((1 << 52) - 1)), Answer::Entry(0));
+    assert_eq!(step(0, Step::Write((1 << 52) - 1)), Answer::Entry { number: 0, place: 0 });
     assert_eq!(words::step(&mut state[..526], &mut entries, 0, Step::Name), Answer::Refused(1));
     assert_eq!(words::fresh(&mut state, &mut entries, 17), Answer::Refused(17));
     assert_eq!(words::fresh(&mut state, &mut entries, 16), Answer::Done);
@@ -121,7 +121,7 @@ fn scores() {
     for taken in [Step::Fetch, Step::Create, Step::Append] {
         assert_eq!(step(0, taken), Answer::Done);
     }
-    assert_eq!(step(0, good), Answer::Entry(0));
+    assert_eq!(step(0, good), Answer::Entry { number: 0, place: 0 });
     assert_eq!(step(0, too_high), Answer::Refused(19));
     for taken in [Step::Name, Step::Become, Step::Fetch, Step::CloseLast] {
         assert_eq!(step(1, taken), Answer::Done);

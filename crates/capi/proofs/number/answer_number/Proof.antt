@@ -29,8 +29,14 @@ add-result c = omega (arith, c .refusal-number .ensures, refusal-small (c .befor
 enum-known-a-2 : tie.Need-enum-known-a-2
 enum-known-a-2 c = search needs
 
+mul-result : tie.Need-mul-result
+mul-result c = omega (arith, subst NumbersBelow (c .before .before .a2 .given .1) (c .before .before .before .before .pre))
+
 add-result-2 : tie.Need-add-result-2
-add-result-2 c = omega (arith, subst NumbersBelow (c .before .before .a2 .given .1) (c .before .before .before .before .pre))
+add-result-2 c = omega (arith, subst NumbersBelow (c .before .before .before .a2 .given .1) (c .before .before .before .before .before .pre))
+
+add-result-3 : tie.Need-add-result-3
+add-result-3 c = omega (arith, subst NumbersBelow (c .before .before .before .a2 .given .1) (c .before .before .before .before .before .pre))
 
 returns : tie.Need-returns
 returns c = sym (ap answerNumber (c .enum-told .given .1))
@@ -45,7 +51,7 @@ returns-4 : tie.Need-returns-4
 returns-4 c = ap (λ (n : ℕ). 256 + n) (c .refusal-number .ensures) ∙ sym (ap answerNumber (c .before .before .a .given .1))
 
 returns-5 : tie.Need-returns-5
-returns-5 c = sym (ap answerNumber (c .before .before .a2 .given .1))
+returns-5 c = sym (ap answerNumber (c .before .before .before .a2 .given .1))
 
 pub answer-number-spec : {M : Type 1} → statement M
 answer-number-spec =
@@ -58,7 +64,9 @@ answer-number-spec =
     refusal-number-requires
     add-result
     enum-known-a-2
+    mul-result
     add-result-2
+    add-result-3
     returns
     returns-2
     returns-3

@@ -39,12 +39,9 @@ put-phrase-requires-3 c κs =
 enum-known-answer : tie.Need-enum-known-answer
 enum-known-answer c = search needs
 
-slice-aggregate-put-counted : tie.Need-slice-aggregate-put-counted
-slice-aggregate-put-counted c = search needs
-
-put-counted-requires : tie.Need-put-counted-requires
-put-counted-requires c κs =
-    let at-answer = c .before .before .before in
+put-position-requires : tie.Need-put-position-requires
+put-position-requires c κs =
+    let at-answer = c .before .before in
     let at-entry = at-answer .before .before .before in
     rw (at-answer .answer .given .1) at (at-entry .pre)
 
@@ -54,11 +51,11 @@ enum-known-answer-2 c = search needs
 refusal-number-requires : tie.Need-refusal-number-requires
 refusal-number-requires c κs = search needs
 
-slice-aggregate-put-counted-2 : tie.Need-slice-aggregate-put-counted-2
-slice-aggregate-put-counted-2 c = search needs
+slice-aggregate-put-counted : tie.Need-slice-aggregate-put-counted
+slice-aggregate-put-counted c = search needs
 
-put-counted-requires-2 : tie.Need-put-counted-requires-2
-put-counted-requires-2 c κs =
+put-counted-requires : tie.Need-put-counted-requires
+put-counted-requires c κs =
     let at-answer2 = c .before .before .before .before in
     let at-entry = at-answer2 .before .before .before in
     rw (c .before .before .refusal-number .ensures) (rw (at-answer2 .answer2 .given .1) at (at-entry .pre))
@@ -92,8 +89,8 @@ same-length-4 c = search needs
 
 returns-4 : tie.Need-returns-4
 returns-4 c =
-    let at-answer = c .before .before .before .before .before .before in
-    rw (at-answer .answer .given .1) (c .before .before .put-counted .ensures)
+    let at-answer = c .before .before .before .before .before in
+    rw (at-answer .answer .given .1) (c .before .before .put-position .ensures)
 
 same-length-5 : tie.Need-same-length-5
 same-length-5 c = search needs
@@ -102,7 +99,7 @@ returns-5 : tie.Need-returns-5
 returns-5 c =
     let at-refusal-number = c .before .before .before .before .before in
     let at-answer2 = at-refusal-number .before .before in
-    rw (at-answer2 .answer2 .given .1, ← at-refusal-number .refusal-number .ensures) (c .before .before .put-counted2 .ensures)
+    rw (at-answer2 .answer2 .given .1, ← at-refusal-number .refusal-number .ensures) (c .before .before .put-counted .ensures)
 
 pub put-answer-spec : {M : Type 1} → statement M
 put-answer-spec =
@@ -118,12 +115,11 @@ put-answer-spec =
     slice-aggregate-put-phrase-3
     put-phrase-requires-3
     enum-known-answer
-    slice-aggregate-put-counted
-    put-counted-requires
+    put-position-requires
     enum-known-answer-2
     refusal-number-requires
-    slice-aggregate-put-counted-2
-    put-counted-requires-2
+    slice-aggregate-put-counted
+    put-counted-requires
     same-length
     returns
     same-length-2
