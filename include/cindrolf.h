@@ -114,7 +114,7 @@ uint64_t cindrolf_create(uint64_t *state, size_t state_length, uint64_t *entries
  * or appended: behind, and the client stops leading. Or refusal 7, 8 or 9. */
 uint64_t cindrolf_append(uint64_t *state, size_t state_length, uint64_t *entries, size_t entries_length, uint64_t client);
 
-/* The leader adds an entry to its ledger: CINDROLF_ENTRY or more, with its number and its place as above, or refusal 11, 7, 8, 9, 12 or 13.
+/* The leader adds an entry to its ledger: CINDROLF_ENTRY or more, with its number and its place as above, or refusal 7, 8, 9, 11, 12 or 13.
  * Who is named leader plays no part. */
 uint64_t cindrolf_write(uint64_t *state, size_t state_length, uint64_t *entries, size_t entries_length, uint64_t client, uint64_t value);
 

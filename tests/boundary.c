@@ -1,5 +1,5 @@
-/* The version of the library, null pointers with length 0, which every function takes for an empty buffer, the limits of lent scores, and the
- * numbers and places that writes answer.
+/* The version of the library, null pointers with length 0, which every function takes for an empty buffer, the limits of lent scores, wide
+ * values, and the numbers and places that writes answer.
  * It compiles as C and as C++. */
 #include "cindrolf.h"
 
@@ -101,6 +101,15 @@ static void check_scores(void) {
     expect("the last score", scores[CINDROLF_SCORES_LIMIT - 1], CINDROLF_HIGHEST_SCORE + 1);
 }
 
+/* A wide value: client 1 does not lead, and client 0 does. */
+static void check_wide(void) {
+    const uint64_t wide = UINT64_C(1) << 52;
+    expect("a wide value by client 1", cindrolf_write(state, CINDROLF_STATE_WORDS, entries, CINDROLF_ENTRY_WORDS, 1, wide),
+           CINDROLF_REFUSED + CINDROLF_REFUSAL_DOES_NOT_LEAD);
+    expect("a wide value by client 0", cindrolf_write(state, CINDROLF_STATE_WORDS, entries, CINDROLF_ENTRY_WORDS, 0, wide),
+           CINDROLF_REFUSED + CINDROLF_REFUSAL_VALUE_TOO_WIDE);
+}
+
 /* To the last entry, after client 0 has gone on to ledger 2 at entry 5: numbers go on, places begin anew. */
 static void check_places(void) {
     cindrolf_close_own(state, CINDROLF_STATE_WORDS, entries, CINDROLF_ENTRY_WORDS, 0);
@@ -136,6 +145,7 @@ int main(void) {
     expect("read a chain into no output", chain.answer, CINDROLF_REFUSED + CINDROLF_REFUSAL_OUTPUT_TOO_SHORT);
     expect("its words", chain.count, 0);
     check_scores();
+    check_wide();
     check_places();
     return wrong;
 }

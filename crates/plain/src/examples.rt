@@ -53,6 +53,23 @@ pub fn fence(model: &mut Model, state: &mut State, entries: &mut Entries) {
     say_line(b"write after the fence", answer);
 }
 
+// The least value that is too wide: from a client that does not lead, at another stage, with its ledger listed, and with its ledger fenced.
+pub fn wide_value(model: &mut Model, state: &mut State, entries: &mut Entries) {
+    let wide = write(0, 1 << 52);
+    begin(model, state, entries, 3);
+    let idle = take(model, state, entries, wide);
+    say_line(b"wide value, does not lead", idle);
+    play(model, state, entries, SESSION, 0, 1);
+    let early = take(model, state, entries, wide);
+    say_line(b"wide value, other stage", early);
+    play(model, state, entries, SESSION, 1, 4);
+    let listed = take(model, state, entries, wide);
+    say_line(b"wide value", listed);
+    play(model, state, entries, SESSION, 4, 13);
+    let fenced = take(model, state, entries, wide);
+    say_line(b"wide value, fenced", fenced);
+}
+
 // Three steps that a fresh log refuses.
 pub fn on_a_fresh_log(model: &mut Model, state: &mut State, entries: &mut Entries) {
     begin(model, state, entries, 3);

@@ -38,6 +38,32 @@ fn marked() {
     assert_eq!(log.state()[17], 0x0080000000000000);
 }
 
+// A client that has lost the lead is told so, however wide its value. A fence is looked at after the value.
+#[test]
+fn wide_values() {
+    let wide = 1 << 52;
+    let mut log = Log::fresh(2).unwrap();
+    assert_eq!(log.write(2, wide), refused(Refusal::UnknownClient));
+    assert_eq!(log.write(0, wide), refused(Refusal::DoesNotLead));
+    for step in [Log::become_leader, Log::fetch, Log::create] {
+        assert_eq!(step(&mut log, 0), Ok(()));
+        assert_eq!(log.write(0, wide), refused(Refusal::OtherStage));
+    }
+    assert_eq!(log.append(0), Ok(Progress::Done));
+    assert_eq!(log.write(0, wide), refused(Refusal::ValueTooWide));
+    for step in [Log::name, Log::become_leader, Log::fetch] {
+        assert_eq!(step(&mut log, 1), Ok(()));
+    }
+    assert_eq!(log.close_last(1), Ok(CloseLast::Done));
+    assert_eq!(log.write(0, wide), refused(Refusal::ValueTooWide));
+    assert_eq!(log.write(0, wide - 1), refused(Refusal::LedgerFenced));
+    // Client 0 writes and remembers no ledger, which no history leads to.
+    let mut state = log.state().to_vec();
+    state[1] = 0xD008_0200_0000_0000;
+    let mut log = Log::from_words(&state, log.entries()).unwrap();
+    assert_eq!(log.write(0, wide), refused(Refusal::ImpossibleMemory));
+}
+
 #[test]
 fn lengths_and_counts() {
     assert_eq!(Log::fresh(16).map(|_| ()), Ok(()));

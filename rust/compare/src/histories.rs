@@ -92,7 +92,9 @@ impl<'a> Run<'a> {
                 self.at_limit += u64::from(matches!(number, 10 | 13));
                 answer == Answer::Refused(number)
             }
-            Taken::Forbidden => return matches!(answer, Answer::Refused(3..=8 | 11 | 12 | 14 | 18 | 19)),
+            Taken::Forbidden => {
+                return matches!(answer, Answer::Refused(number) if self.source.forbids_by(client, number));
+            }
         };
         let (state, entries) = self.source.buffers();
         answers && state == self.sides.buffers().state && entries == self.sides.buffers().entries

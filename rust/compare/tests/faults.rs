@@ -3,7 +3,7 @@
 use compare::call::{self, Call, Lent, Outcome, Subject};
 use compare::sides::Sides;
 use compare::{buffers, histories, logs, sweep};
-use model::layout::{Client, Head, client_index, place_index};
+use model::layout::{Client, Head, Ledger, client_index, ledger_index, place_index};
 use model::random::Random;
 use model::{Answer, Step};
 
@@ -141,6 +141,36 @@ fn lead_before_scores(call: Call, lent: &mut Lent) -> Outcome {
         }
         _ => outcome,
     }
+}
+
+// A value is looked at before the client's lead, its stage and its memory.
+fn value_first(call: Call, lent: &mut Lent) -> Outcome {
+    match (call, call::model(call, lent)) {
+        (Call::Step(_, Step::Write(value)), Outcome::Answer(Answer::Refused(7..=9))) if value >= 1 << 52 => {
+            Outcome::Answer(Answer::Refused(11))
+        }
+        (_, outcome) => outcome,
+    }
+}
+
+// A value is looked at after the fence.
+fn value_after_the_fence(call: Call, lent: &mut Lent) -> Outcome {
+    let outcome = call::model(call, lent);
+    if let (Call::Step(client, Step::Write(_)), Outcome::Answer(Answer::Refused(11))) = (call, &outcome) {
+        let ledger = Client::load(lent.state[client_index(client)]).0.ledger;
+        if Ledger::load(lent.state[ledger_index(ledger)]).0.fenced == 1 {
+            return Outcome::Answer(Answer::Refused(12));
+        }
+    }
+    outcome
+}
+
+#[test]
+fn finds_a_wide_value_in_the_wrong_order() {
+    let report = first(histories::compare, value_first, 100).expect("the fault is found");
+    assert!(report.contains("gives Answer(Refused(11)), the model Answer(Refused("), "{report}");
+    let report = first(histories::compare, value_after_the_fence, 100).expect("the fault is found");
+    assert!(report.contains("gives Answer(Refused(12)), the model Answer(Refused(11))"), "{report}");
 }
 
 #[test]

@@ -30,7 +30,7 @@ impl Log {
         let agree = match self.source.step(client, step) {
             Taken::Accepted(expected) => answer == expected,
             Taken::Limit(number) => answer == Answer::Refused(number),
-            Taken::Forbidden => matches!(answer, Answer::Refused(_)),
+            Taken::Forbidden => matches!(answer, Answer::Refused(number) if self.source.forbids_by(client, number)),
         };
         assert!(agree, "the words and LedgerChaining part at {step:?} by client {client}: the words give {answer:?}");
         answer

@@ -55,7 +55,7 @@ const WHOLE: &[(&str, &str)] = &[
     ("end_newline", "1 ok | 2 ok | chain"),
     ("end_two_newlines", "1 ok | 2 ok | 3 bad line | chain"),
     ("ref_3", "1 ref 3 | 2 ref 3 | 3 ref 3 | 4 ref 3 | 5 ref 3 | 6 ref 3 | 7 ref 3 | 8 ref 3 | 9 ref 3 | chain"),
-    ("ref_3_before_11", "1 ref 3 | 2 ref 3 | 3 ref 11 | chain"),
+    ("ref_3_before_11", "1 ref 3 | 2 ref 3 | 3 ref 7 | chain"),
     ("ref_4_name", "1 ref 4 | 2 ok | 3 ref 4 | 4 ok | chain"),
     ("ref_4_abdicate", "1 ref 7 | 2 ok | 3 ref 4 | 4 ok | 5 ok | 6 ref 7 | chain"),
     ("ref_5_before_6", "1 ok | 2 ok | 3 ref 5 | chain"),
@@ -73,6 +73,8 @@ const WHOLE: &[(&str, &str)] = &[
         "ref_8_stage_5",
         "1 ok | 2 ok | 3 ok | 4 ok | 5 ref 8 | 6 ref 8 | 7 ref 8 | 8 ref 8 | 9 entry 0 place 0 | 10 ok | chain 0:1",
     ),
+    ("ref_7_before_11", "1 ref 7 | 2 ref 7 | 3 ref 7 | chain"),
+    ("ref_8_before_11", "1 ok | 2 ref 8 | 3 ok | 4 ref 8 | 5 ok | 6 ref 8 | 7 ref 8 | chain"),
     (
         "ref_11_before_12",
         "1 ok | 2 ok | 3 ok | 4 ok | 5 entry 0 place 0 | 6 ok | 7 ok | 8 ok | 9 ok | 10 ref 11 | 11 ref 12 | chain 0:1",

@@ -1,7 +1,7 @@
 //! The two halves of the model against each other: LedgerChaining's terms and the reference's words, on random histories; and the reference's examples.
 
 use model::histories::Profile;
-use model::layout::{ENTRY_WORDS, Entry, STATE_WORDS};
+use model::layout::{Client, ENTRY_WORDS, Entry, NONE, STATE_WORDS, client_index};
 use model::random::Random;
 use model::source::{Source, Taken};
 use model::{Answer, Step, words};
@@ -10,11 +10,6 @@ fn fresh(client_count: u64) -> (Vec<u64>, Vec<u64>) {
     let (mut state, mut entries) = (vec![7; STATE_WORDS], vec![7; ENTRY_WORDS]);
     assert_eq!(words::fresh(&mut state, &mut entries, client_count), Answer::Done);
     (state, entries)
-}
-
-/// A refusal that LedgerChaining's own guards explain. 9 is not among them: it never occurs from a fresh log.
-fn guarded(answer: Answer) -> bool {
-    matches!(answer, Answer::Refused(3..=8 | 11 | 12 | 14 | 18 | 19))
 }
 
 #[test]
@@ -32,7 +27,7 @@ fn histories_agree() {
             let agree = match source.step(client, step) {
                 Taken::Accepted(expected) => answer == expected,
                 Taken::Limit(number) => answer == Answer::Refused(number),
-                Taken::Forbidden => guarded(answer),
+                Taken::Forbidden => matches!(answer, Answer::Refused(number) if source.forbids_by(client, number)),
             };
             assert!(agree, "{client} {step:?}: {answer:?}");
             assert!((&state, &entries) == (&source.buffers().0, &source.buffers().1), "after {client} {step:?}");
@@ -101,6 +96,29 @@ fn examples() {
     assert_eq!(words::step(&mut state[..526], &mut entries, 0, Step::Name), Answer::Refused(1));
     assert_eq!(words::fresh(&mut state, &mut entries, 17), Answer::Refused(17));
     assert_eq!(words::fresh(&mut state, &mut entries, 16), Answer::Done);
+}
+
+// A value is looked at after the lead, the stage and the memory, and before the fence.
+#[test]
+fn wide_values() {
+    let wide = Step::Write(1 << 52);
+    let (mut state, mut entries) = fresh(2);
+    let mut step = |client, step| words::step(&mut state, &mut entries, client, step);
+    assert_eq!(step(2, wide), Answer::Refused(3));
+    assert_eq!(step(0, wide), Answer::Refused(7));
+    for taken in [Step::Become, Step::Fetch, Step::Create, Step::Append] {
+        assert_eq!(step(0, taken), Answer::Done);
+        let refusal = if taken == Step::Append { 11 } else { 8 };
+        assert_eq!(step(0, wide), Answer::Refused(refusal), "after {taken:?}");
+    }
+    for taken in [Step::Name, Step::Become, Step::Fetch, Step::CloseLast] {
+        assert_eq!(step(1, taken), Answer::Done);
+    }
+    assert_eq!(step(0, wide), Answer::Refused(11));
+    assert_eq!(step(0, Step::Write((1 << 52) - 1)), Answer::Refused(12));
+    let forgetful = Client { leads: 1, stage: 5, list_version: 1, ledger: 0, open: 0, version: NONE };
+    state[client_index(0)] = forgetful.word();
+    assert_eq!(words::step(&mut state, &mut entries, 0, wide), Answer::Refused(9));
 }
 
 // The checks of the scores stand between the client's number and its lead.
