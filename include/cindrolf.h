@@ -68,7 +68,7 @@ static inline uint64_t cindrolf_answer_place(uint64_t answer) { return answer & 
 #define CINDROLF_REFUSAL_VALUE_TOO_WIDE UINT64_C(11)    /* the value is 2^52 or more */
 #define CINDROLF_REFUSAL_LEDGER_FENCED UINT64_C(12)     /* another leader has fenced the client's ledger */
 #define CINDROLF_REFUSAL_LOG_FULL UINT64_C(13)          /* there are 4096 entries */
-#define CINDROLF_REFUSAL_LEDGER_EMPTY UINT64_C(14)      /* the client's ledger has no entry and is not fenced */
+#define CINDROLF_REFUSAL_LEDGER_EMPTY UINT64_C(14)      /* withdrawn: no operation gives it */
 #define CINDROLF_REFUSAL_NOT_LISTED UINT64_C(15)        /* the ledger is not in the list */
 #define CINDROLF_REFUSAL_OUTPUT_TOO_SHORT UINT64_C(16)  /* the output buffer is shorter than the reading */
 #define CINDROLF_REFUSAL_CLIENT_COUNT UINT64_C(17)      /* the client count is 0 or above 16 */
@@ -125,8 +125,8 @@ uint64_t cindrolf_write(uint64_t *state, size_t state_length, uint64_t *entries,
 uint64_t cindrolf_write_scores(uint64_t *state, size_t state_length, uint64_t *entries, size_t entries_length, uint64_t client,
                                const uint16_t *scores, size_t scores_length);
 
-/* The leader closes its own ledger, without a fence, and has to create one next: done. If another closed it: behind, and the client stops
- * leading. Or refusal 7, 8, 9 or 14. */
+/* The leader closes its own ledger, which may be empty, without a fence, and has to create one next: done. If another closed it: behind, and
+ * the client stops leading. Or refusal 7, 8 or 9. */
 uint64_t cindrolf_close_own(uint64_t *state, size_t state_length, uint64_t *entries, size_t entries_length, uint64_t client);
 
 /* One ledger's part of the entry buffer: the words entries[start] to entries[start + count - 1]. Both are 0 where it is empty. */

@@ -1,5 +1,5 @@
-/* The version of the library, null pointers with length 0, which every function takes for an empty buffer, the limits of lent scores, wide
- * values, and the numbers and places that writes answer.
+/* The version of the library, null pointers with length 0, which every function takes for an empty buffer, an empty ledger that
+ * its leader closes, the limits of lent scores, wide values, and the numbers and places that writes answer.
  * It compiles as C and as C++. */
 #include "cindrolf.h"
 
@@ -73,7 +73,7 @@ static void expect_written(const char *what, uint64_t answer, uint64_t number, u
     expect(what, cindrolf_answer_place(answer), place);
 }
 
-/* The entry that the log has room for next, from these scores, and the value that it has to have. All are in ledger 1. */
+/* The entry that the log has room for next, from these scores, and the value that it has to have. All are in one ledger. */
 static void write_and_read(const char *what, uint64_t number, size_t count, uint64_t value) {
     expect_written(what, write_scores(scores, count), number, number);
     expect(what, cindrolf_word_value(entries[number]), value);
@@ -101,6 +101,18 @@ static void check_scores(void) {
     expect("the last score", scores[CINDROLF_SCORES_LIMIT - 1], CINDROLF_HIGHEST_SCORE + 1);
 }
 
+/* Client 0 closes its ledger, which has no entry yet, and goes on to the next. */
+static void check_empty_close(void) {
+    expect("close an empty ledger", cindrolf_close_own(state, CINDROLF_STATE_WORDS, entries, CINDROLF_ENTRY_WORDS, 0), CINDROLF_DONE);
+    expect("the stage after it", CINDROLF_STAGE(state, 0), 3);
+    expect("the ledger's word", state[17], UINT64_C(0x0080000000000000));
+    struct cindrolf_ledger_part part = cindrolf_read_ledger(state, CINDROLF_STATE_WORDS, entries, CINDROLF_ENTRY_WORDS, 1);
+    expect("read an empty ledger", part.answer, CINDROLF_DONE);
+    expect("words in its part", part.count, 0);
+    cindrolf_create(state, CINDROLF_STATE_WORDS, entries, CINDROLF_ENTRY_WORDS, 0);
+    cindrolf_append(state, CINDROLF_STATE_WORDS, entries, CINDROLF_ENTRY_WORDS, 0);
+}
+
 /* A wide value: client 1 does not lead, and client 0 does. */
 static void check_wide(void) {
     const uint64_t wide = UINT64_C(1) << 52;
@@ -110,7 +122,7 @@ static void check_wide(void) {
            CINDROLF_REFUSED + CINDROLF_REFUSAL_VALUE_TOO_WIDE);
 }
 
-/* To the last entry, after client 0 has gone on to ledger 2 at entry 5: numbers go on, places begin anew. */
+/* To the last entry, after client 0 has gone on to its next ledger at entry 5: numbers go on, places begin anew. */
 static void check_places(void) {
     cindrolf_close_own(state, CINDROLF_STATE_WORDS, entries, CINDROLF_ENTRY_WORDS, 0);
     cindrolf_create(state, CINDROLF_STATE_WORDS, entries, CINDROLF_ENTRY_WORDS, 0);
@@ -140,6 +152,7 @@ int main(void) {
     cindrolf_fetch(state, CINDROLF_STATE_WORDS, entries, CINDROLF_ENTRY_WORDS, 0);
     cindrolf_create(state, CINDROLF_STATE_WORDS, entries, CINDROLF_ENTRY_WORDS, 0);
     cindrolf_append(state, CINDROLF_STATE_WORDS, entries, CINDROLF_ENTRY_WORDS, 0);
+    check_empty_close();
     expect_written("write", cindrolf_write(state, CINDROLF_STATE_WORDS, entries, CINDROLF_ENTRY_WORDS, 0, 7), 0, 0);
     chain = cindrolf_read_chain(state, CINDROLF_STATE_WORDS, entries, CINDROLF_ENTRY_WORDS, NULL, 0);
     expect("read a chain into no output", chain.answer, CINDROLF_REFUSED + CINDROLF_REFUSAL_OUTPUT_TOO_SHORT);

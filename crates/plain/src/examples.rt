@@ -11,7 +11,10 @@ use chain::answer::Answer;
 use comparison::buffers::Entries;
 use comparison::buffers::State;
 use model::answer::ABDICATE;
+use model::answer::APPEND;
 use model::answer::BECOME;
+use model::answer::CLOSE_OWN;
+use model::answer::CREATE;
 use model::answer::NAME;
 use model::variables::Model;
 ghost use Prim.Native.Nat.{_≤_};
@@ -68,6 +71,27 @@ pub fn wide_value(model: &mut Model, state: &mut State, entries: &mut Entries) {
     play(model, state, entries, SESSION, 4, 13);
     let fenced = take(model, state, entries, wide);
     say_line(b"wide value, fenced", fenced);
+}
+
+// A ledger that its owner closes while it is empty. The next one takes the first entry.
+pub fn empty_ledger(model: &mut Model, state: &mut State, entries: &mut Entries) {
+    list_a_ledger(model, state, entries);
+    let closed = take(model, state, entries, asked(CLOSE_OWN, 0));
+    say_line(b"close own, empty", closed);
+    let created = take(model, state, entries, asked(CREATE, 0));
+    say_line(b"create after it", created);
+    take(model, state, entries, asked(APPEND, 0));
+    let written = take(model, state, entries, write(0, 7));
+    say_line(b"write after it", written);
+}
+
+// The session without its first write: its first ledger is empty and fenced when its owner closes it.
+pub fn empty_fenced_ledger(model: &mut Model, state: &mut State, entries: &mut Entries) {
+    begin(model, state, entries, 3);
+    play(model, state, entries, SESSION, 0, 4);
+    play(model, state, entries, SESSION, 5, 9);
+    let answer = take(model, state, entries, asked(CLOSE_OWN, 0));
+    say_line(b"close own, empty and fenced", answer);
 }
 
 // Three steps that a fresh log refuses.

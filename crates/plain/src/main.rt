@@ -14,6 +14,9 @@ fn main() {
     readings::chain_line(&state, &entries);
     examples::fence(&mut model, &mut state, &mut entries);
     examples::wide_value(&mut model, &mut state, &mut entries);
+    examples::empty_ledger(&mut model, &mut state, &mut entries);
+    readings::chain_line(&state, &entries);
+    examples::empty_fenced_ledger(&mut model, &mut state, &mut entries);
     examples::on_a_fresh_log(&mut model, &mut state, &mut entries);
     examples::short_state(&mut model, &mut state, &mut entries);
     examples::client_counts(&mut model, &mut state, &mut entries);

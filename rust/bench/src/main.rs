@@ -1,15 +1,16 @@
-//! What a write, the check, a reading and a sum of scores cost, beside plain Rust, in one run. See `--help`.
+//! What a write, a close, the check, a reading and a sum of scores cost, beside plain Rust, in one run. See `--help`.
 
 mod checks;
 mod measure;
 mod plot;
 mod sums;
 
-use cindrolf::calls;
+use cindrolf::{Progress, calls};
 use compare::arguments;
 use compare::call::Buffers;
 use compare::logs::chain;
 use measure::{Candidate, Times, compared, interleaved};
+use model::layout::{Head, client_index, ledger_index};
 use model::random::Random;
 use model::{Step, words};
 use plot::{Line, Panel};
@@ -19,7 +20,7 @@ use std::process::ExitCode;
 use std::time::Duration;
 
 const HELP: &str = "\
-Times a write, the check, a reading and a sum of scores of the proved library beside plain Rust, in turn.
+Times a write, a close, the check, a reading and a sum of scores of the proved library beside plain Rust, in turn.
 
   --rounds N     rounds for each table (default 201)
   --plot FILE    where the plot of cost against entries and ledgers goes (default target/bench/cost.svg)
@@ -62,6 +63,17 @@ fn write<'a, T>(name: &'static str, log: &Buffers, write: impl Fn(&mut [u64], &m
     })
 }
 
+/// Closes the last ledger by client 0, whose it is, and undoes it.
+fn close<'a, T>(name: &'static str, log: &Buffers, close: impl Fn(&mut [u64], &mut [u64]) -> T + 'a) -> Candidate<'a> {
+    let mut log = log.clone();
+    let (client, ledger) = (client_index(0), ledger_index(Head::load(log.state[0]).0.next_ledger - 1));
+    let words = (log.state[client], log.state[ledger]);
+    Candidate::new(name, move || {
+        black_box(close(black_box(&mut log.state), black_box(&mut log.entries)));
+        (log.state[client], log.state[ledger]) = words;
+    })
+}
+
 fn check<'a, T>(name: &'static str, log: &'a Buffers, check: impl Fn(&[u64], &[u64]) -> T + 'a) -> Candidate<'a> {
     Candidate::new(name, move || {
         black_box(check(black_box(&log.state), black_box(&log.entries)));
@@ -90,6 +102,15 @@ fn writes(log: &Buffers) -> Vec<Candidate<'_>> {
             }
         }),
         write("append, no check", log, |state, entries| checks::trusting_write(state, entries, 0, 7)),
+        check("or over the words", log, checks::limit),
+    ]
+}
+
+fn closes(log: &Buffers) -> Vec<Candidate<'_>> {
+    assert_eq!(calls::close_own(&mut log.state.clone(), &mut log.entries.clone(), 0), Ok(Progress::Done));
+    vec![
+        close("library", log, |state, entries| calls::close_own(state, entries, 0)),
+        close("model", log, |state, entries| words::step(state, entries, 0, Step::CloseOwn)),
         check("or over the words", log, checks::limit),
     ]
 }
@@ -174,6 +195,7 @@ fn tables(rounds: usize) {
     ];
     for (name, to_write, to_read) in &logs {
         print(name, "write", &compared(&interleaved(writes(to_write), rounds, SLICE)));
+        print(name, "close own", &compared(&interleaved(closes(to_read), rounds, SLICE)));
         print(name, "check", &compared(&interleaved(all_checks(to_read), rounds, SLICE)));
         print(name, "read chain", &compared(&interleaved(reads(to_read), rounds, SLICE)));
     }

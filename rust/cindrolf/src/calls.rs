@@ -78,7 +78,7 @@ operation! {
 }
 
 operation! {
-    /// The client closes its own ledger.
+    /// The client closes its own ledger, which may be empty.
     close_own(client), cindrolf_close_own, answer::progress => Progress
 }
 

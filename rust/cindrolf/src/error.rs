@@ -126,7 +126,7 @@ refusals! {
     LedgerFenced = 12, "another leader has fenced the client's ledger";
     /// All 4,096 entries are in use.
     LogFull = 13, "the log is full";
-    /// The client's ledger has no entry and isn't fenced, so it isn't closed.
+    /// Withdrawn: no operation gives it, and its number stays taken. An empty ledger is closed as any other.
     LedgerEmpty = 14, "the client's ledger has no entry";
     /// The ledger isn't in the list.
     NotListed = 15, "the ledger is not in the list";

@@ -233,8 +233,8 @@ macro_rules! operations {
                 calls::write_scores(&mut self.state, &mut self.entries, client, scores)
             }
 
-            /// The client closes its own ledger, without a fence. It creates one next. When it is behind it no longer
-            /// leads.
+            /// The client closes its own ledger, which may be empty, without a fence. It creates one next. When it is
+            /// behind it no longer leads.
             pub fn close_own(&mut self, client: u64) -> Result<Progress, Error> {
                 calls::close_own(&mut self.state, &mut self.entries, client)
             }

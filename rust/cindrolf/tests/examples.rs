@@ -3,7 +3,7 @@
 use cindrolf::{
     CloseLast, ENTRY_WORDS, EntryNumber, Error, LedgerNumber, LedgerPlace, Log, LogMut, Position, Progress,
 };
-use cindrolf::{HIGHEST_SCORE, Refusal, SCORES_LIMIT, STATE_WORDS, calls, ledger_of, value_of};
+use cindrolf::{HIGHEST_SCORE, Refusal, SCORES_LIMIT, STATE_WORDS, Stage, calls, ledger_of, value_of};
 
 fn refused<T>(refusal: Refusal) -> Result<T, Error> {
     Err(Error::Refused(refusal))
@@ -31,11 +31,35 @@ fn marked() {
     assert_eq!(log.become_leader(1), refused(Refusal::NotNamed));
     assert_eq!(log.abdicate(0), refused(Refusal::DoesNotLead));
     let mut log = writing(3);
-    assert_eq!(log.close_own(0), refused(Refusal::LedgerEmpty));
     assert_eq!(log.write(0, 1 << 52), refused(Refusal::ValueTooWide));
     assert_eq!(log.write(0, (1 << 52) - 1), at(0, 0));
     assert_eq!(log.close_own(0), Ok(Progress::Done));
     assert_eq!(log.state()[17], 0x0080000000000000);
+}
+
+// Listed between others, an empty ledger is closed without a fence and reads as an empty part. A fenced one is behind.
+#[test]
+fn empty_ledgers() {
+    let mut log = writing(2);
+    assert_eq!(log.write(0, 5), at(0, 0));
+    for closed in [LedgerNumber(1), LedgerNumber(2)] {
+        assert_eq!(log.close_own(0), Ok(Progress::Done));
+        let ledger = log.view().ledger(closed).unwrap();
+        assert!(!ledger.open && !ledger.fenced);
+        assert_eq!(log.view().client(0).unwrap().stage, Stage::Creating);
+        assert_eq!(log.create(0), Ok(()));
+        assert_eq!(log.append(0), Ok(Progress::Done));
+    }
+    assert_eq!(log.write(0, 6), at(1, 0));
+    assert_eq!(log.read_ledger(LedgerNumber(2)), Ok(&[][..]));
+    assert_eq!(log.read_ledger(LedgerNumber(3)), Ok(&log.entries()[1..2]));
+
+    let mut log = writing(2);
+    for step in [Log::name, Log::become_leader, Log::fetch] {
+        assert_eq!(step(&mut log, 1), Ok(()));
+    }
+    assert_eq!(log.close_last(1), Ok(CloseLast::Done));
+    assert_eq!(log.close_own(0), Ok(Progress::Behind));
 }
 
 // A client that has lost the lead is told so, however wide its value. A fence is looked at after the value.

@@ -4,7 +4,7 @@ use crate::call::{Call, Outcome};
 use model::{Answer, Step};
 use std::fmt;
 
-/// The operations, in the reference's order, each with the answers that it can give: 1 to 19 are refusals.
+/// The operations, in the reference's order, each with the answers that it can give: 1 to 19 are refusals. None gives 14.
 const OPERATIONS: [(&str, &[usize]); 14] = [
     ("fresh", &[DONE, 1, 17]),
     ("name", &[DONE, 1, 2, 3, 4]),
@@ -16,7 +16,7 @@ const OPERATIONS: [(&str, &[usize]); 14] = [
     ("append", &[DONE, BEHIND, 1, 2, 3, 7, 8, 9]),
     ("write", &[ENTRY, 1, 2, 3, 7, 8, 9, 11, 12, 13]),
     ("write scores", &[ENTRY, 1, 2, 3, 7, 8, 9, 12, 13, 18, 19]),
-    ("close own", &[DONE, BEHIND, 1, 2, 3, 7, 8, 9, 14]),
+    ("close own", &[DONE, BEHIND, 1, 2, 3, 7, 8, 9]),
     ("well formed", &[YES, NO]),
     ("read ledger", &[DONE, 1, 2, 15]),
     ("read chain", &[DONE, 1, 2, 16]),

@@ -3,7 +3,7 @@
 use compare::call::{self, Call, Lent, Outcome, Subject};
 use compare::sides::Sides;
 use compare::{buffers, histories, logs, sweep};
-use model::layout::{Client, Head, Ledger, client_index, ledger_index, place_index};
+use model::layout::{Client, Entry, Head, Ledger, client_index, ledger_index, place_index};
 use model::random::Random;
 use model::{Answer, Step};
 
@@ -120,6 +120,19 @@ fn place_in_the_log(call: Call, lent: &mut Lent) -> Outcome {
     }
 }
 
+// A client's own ledger isn't closed before it has an entry.
+fn keeps_an_empty_ledger_open(call: Call, lent: &mut Lent) -> Outcome {
+    if let Call::Step(client, Step::CloseOwn) = call
+        && on_copies(call, lent) == Outcome::Answer(Answer::Done)
+    {
+        let ledger = Client::load(lent.state[client_index(client)]).0.ledger;
+        if !lent.entries.iter().any(|&word| Entry::load(word).ledger == ledger) {
+            return Outcome::Answer(Answer::Refused(14));
+        }
+    }
+    call::model(call, lent)
+}
+
 // The last score is not looked at.
 fn skips_the_last_score(call: Call, lent: &mut Lent) -> Outcome {
     match call {
@@ -193,6 +206,14 @@ fn finds_a_refused_write() {
 }
 
 #[test]
+fn finds_an_empty_ledger_that_stays_open() {
+    let report = first(histories::compare, keeps_an_empty_ledger_open, 100).expect("the fault is found");
+    // Client 0 leads, and closes its first ledger.
+    assert!(history(&report).len() <= 7, "{report}");
+    assert!(report.contains("gives Answer(Refused(14)), the model Answer(Done)"), "{report}");
+}
+
+#[test]
 fn finds_a_wrong_place() {
     let report = first(histories::compare, place_in_the_log, 100).expect("the fault is found");
     // A client writes, closes its ledger, and writes to its next.
@@ -214,8 +235,9 @@ fn finds_a_wrong_word() {
 #[test]
 fn finds_a_gap() {
     let report = first(histories::compare, fence_by_place, 200).expect("the fault is found");
-    // Two create, the second appends first.
-    assert!(history(&report).len() <= 14, "{report}");
+    // Two create, the second appends first. Each ledger from there to the one that is read takes three steps more.
+    let ledger: usize = report.split(['(', ')']).nth(1).and_then(|number| number.parse().ok()).expect("a reading");
+    assert!(history(&report).len() <= 9 + 3 * (ledger - 2), "{report}");
 }
 
 #[test]

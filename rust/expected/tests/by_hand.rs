@@ -89,11 +89,25 @@ const WHOLE: &[(&str, &str)] = &[
         "1 ok | 2 ok | 3 ok | 4 ok | 5 entry 0 place 0 | 6 ok | 7 ok | 8 ok | 9 ok | 10 ok | 11 ok | \
          12 entry 1 place 0 | 13 ref 12 | 14 entry 2 place 1 | 15 ref 12 | chain 0:1 1:2 1:4",
     ),
-    ("ref_14", "1 ok | 2 ok | 3 ok | 4 ok | 5 ref 14 | 6 ref 14 | 7 entry 0 place 0 | 8 ok | chain 0:1"),
+    ("close_own_empty", "1 ok | 2 ok | 3 ok | 4 ok | 5 ok | 6 ref 8 | 7 ref 8 | 8 ref 8 | chain"),
     (
-        "ref_14_second_ledger",
-        "1 ok | 2 ok | 3 ok | 4 ok | 5 entry 0 place 0 | 6 ok | 7 ok | 8 ok | 9 ref 14 | 10 entry 1 place 0 | \
-         11 ok | chain 0:1 0:2",
+        "close_own_empty_second_ledger",
+        "1 ok | 2 ok | 3 ok | 4 ok | 5 entry 0 place 0 | 6 ok | 7 ok | 8 ok | 9 ok | 10 ref 8 | 11 ref 8 | chain 0:1",
+    ),
+    (
+        "close_own_empty_after_handover",
+        "1 ok | 2 ok | 3 ok | 4 ok | 5 entry 0 place 0 | 6 ok | 7 ok | 8 ok | 9 ok | 10 ok | 11 ok | 12 ok | \
+         13 behind | 14 ref 8 | 15 ref 8 | chain 0:1",
+    ),
+    ("close_own_empty_no_longer_named", "1 ok | 2 ok | 3 ok | 4 ok | 5 ok | 6 ok | 7 ref 8 | 8 ref 8 | chain"),
+    (
+        "close_own_empty_while_fetched",
+        "1 ok | 2 ok | 3 ok | 4 ok | 5 ok | 6 ok | 7 ok | 8 ok | 9 behind | 10 ref 8 | 11 ref 8 | chain",
+    ),
+    (
+        "total_empty_ledger_closed_between",
+        "1 ok | 2 ok | 3 ok | 4 ok | 5 entry 0 place 0 | 6 ok | 7 ok | 8 ok | 9 ok | 10 ok | 11 ok | \
+         12 entry 1 place 0 | 13 ok | chain 0:1 0:2",
     ),
     (
         "stale_write_before_fence",
@@ -105,10 +119,7 @@ const WHOLE: &[(&str, &str)] = &[
         "1 ok | 2 ok | 3 ok | 4 ok | 5 entry 0 place 0 | 6 ok | 7 ok | 8 ok | 9 ok | 10 behind | 11 ref 7 | \
          12 ref 7 | 13 ok | 14 ok | 15 entry 1 place 0 | chain 0:1 1:3",
     ),
-    (
-        "stale_close_own_empty",
-        "1 ok | 2 ok | 3 ok | 4 ok | 5 ok | 6 ok | 7 ok | 8 ref 14 | 9 ok | 10 behind | 11 ref 7 | chain",
-    ),
+    ("stale_close_own_empty", "1 ok | 2 ok | 3 ok | 4 ok | 5 ok | 6 ok | 7 ok | 8 ok | 9 behind | 10 ref 7 | chain"),
     (
         "append_behind",
         "1 ok | 2 ok | 3 ok | 4 ok | 5 ok | 6 ok | 7 ok | 8 ok | 9 behind | 10 ref 7 | 11 ref 7 | \

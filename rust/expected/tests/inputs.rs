@@ -17,7 +17,7 @@ const ANSWERS: [(&str, &[&str]); 9] = [
     ("C", &["ok", "ref 3", "ref 7", "ref 8", "ref 10"]),
     ("P", &["ok", "behind", "ref 3", "ref 7", "ref 8"]),
     ("W", &["entry", "ref 3", "ref 7", "ref 8", "ref 11", "ref 12"]),
-    ("O", &["ok", "behind", "ref 3", "ref 7", "ref 8", "ref 14"]),
+    ("O", &["ok", "behind", "ref 3", "ref 7", "ref 8"]),
 ];
 
 /// A leader's stages, each with its own steps; each of the others is refused by 8 there.

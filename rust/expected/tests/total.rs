@@ -34,6 +34,9 @@ fn ends_by_hand() {
 fn ledgers_by_hand() {
     let lines = |name: &str| output(&input(name).unwrap());
     assert!(lines("total_empty_ledger").starts_with("ledger 1 entries 0 sum 0.000000000000\ntotal "));
+    let closed_between = "ledger 1 entries 1 sum 0.000000000001\nledger 2 entries 0 sum 0.000000000000\n\
+                          ledger 3 entries 1 sum 0.000000000002\ntotal ";
+    assert!(lines("total_empty_ledger_closed_between").starts_with(closed_between));
     assert!(lines("total_gap_first").starts_with("ledger 2 entries 1 sum 0.000000000006\ntotal "));
     let gap = "ledger 1 entries 1 sum 0.000000000001\nledger 3 entries 1 sum 0.000000000020\ntotal ";
     assert!(lines("total_gap_middle").starts_with(gap));

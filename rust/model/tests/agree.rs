@@ -90,12 +90,30 @@ fn examples() {
     for taken in [Step::Become, Step::Fetch, Step::Create, Step::Append] {
         assert_eq!(step(0, taken), Answer::Done);
     }
-    assert_eq!(step(0, Step::CloseOwn), Answer::Refused(14));
     assert_eq!(step(0, Step::Write(1 << 52)), Answer::Refused(11));
     assert_eq!(step(0, Step::Write((1 << 52) - 1)), Answer::Entry { number: 0, place: 0 });
     assert_eq!(words::step(&mut state[..526], &mut entries, 0, Step::Name), Answer::Refused(1));
     assert_eq!(words::fresh(&mut state, &mut entries, 17), Answer::Refused(17));
     assert_eq!(words::fresh(&mut state, &mut entries, 16), Answer::Done);
+}
+
+// A ledger without an entry is closed as any other: without a fence by its owner, and not at all where another was faster.
+#[test]
+fn empty_ledgers() {
+    let (mut state, mut entries) = fresh(2);
+    let mut step = |client, step| words::step(&mut state, &mut entries, client, step);
+    for taken in [Step::Become, Step::Fetch, Step::Create, Step::Append, Step::CloseOwn, Step::Create, Step::Append] {
+        assert_eq!(step(0, taken), Answer::Done, "{taken:?}");
+    }
+    for taken in [Step::Name, Step::Become, Step::Fetch, Step::CloseLast] {
+        assert_eq!(step(1, taken), Answer::Done);
+    }
+    assert_eq!(step(0, Step::CloseOwn), Answer::Behind);
+    assert_eq!(state[17..20], [0x0080000000000000, 0x00C0000000000000, 0]);
+    assert_eq!([0, 1].map(|client| Client::load(state[client_index(client)]).0.stage), [0, 3]);
+    for ledger in [1, 2] {
+        assert_eq!(words::read_ledger(&state, &entries, ledger).map(|part| part.len()), Ok(0));
+    }
 }
 
 // A value is looked at after the lead, the stage and the memory, and before the fence.
