@@ -7,4 +7,3 @@ pub mod FirstLine
 pub mod Openings
 pub mod Starts
 pub mod Begins
-pub mod Accepted

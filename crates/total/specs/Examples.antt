@@ -8,12 +8,13 @@ use Rattle.records.specs.Words.{packHead, packClient, packLedger, packPlace, pa
 use Rattle.chain.specs.Log.{put, place, ofLedger, newestFrom}
 use Rattle.chain.specs.Buffers.{head, clientsIn, ledgersIn, listIn, entriesIn}
 use Rattle.chain.specs.Operations.{readLedgerPart, freshBuffers, afterSteps, afterStep, stepEffect}
+use Rattle.chain.specs.Values.{sum}
 use Rattle.grammar.specs.Grammar.{parseLine, parseWrite, letterStep, withClient}
 use Rattle.amounts.specs.Amounts.{padded, fixed}
 use Rattle.requests.specs.Lines.{lines, longer}
 use Rattle.requests.specs.Requests.{requestOf, taken}
 use Rattle.requests.specs.Opening.{opening, startedBy, started, clientCount}
-use Rattle.total.specs.Output.{sum, sumLine, ledgerLine, roundedLine, endLines, ledgerLines, sumAlong, logText, output}
+use Rattle.total.specs.Output.{sumLine, ledgerLine, roundedLine, endLines, ledgerLines, sumAlong, logText, output}
 
 unended : output (bytes "3") ≡ bytes "bad start\n"
 unfolding output opening startedBy lines longer started clientCount

@@ -11,14 +11,15 @@ use Rattle.records.specs.Words.{unpackPlace}
 use Rattle.records.specs.WordLaws.{place-fits}
 use Rattle.chain.specs.Buffers.{head, listIn}
 use Rattle.chain.specs.Operations.{Buffers, held, afterSteps, freshBuffers, readLedgerPart}
+use Rattle.chain.specs.Values.{sumOf}
+use Rattle.chain.specs.Laws.Values.{sum-bound}
 use Rattle.amounts.specs.Amounts.{fixed}
 use Rattle.amounts.specs.AmountLaws.{exact-length, rounded-length}
 use Rattle.amounts.specs.Rounding.{rounded}
 use Rattle.requests.specs.Requests.{taken}
 use Rattle.requests.specs.Opening.{sessionCapacity}
 use Rattle.requests.specs.Openings.{printed-length}
-use Rattle.total.specs.Output.{sumOf, sumLine, ledgerLine, roundedLine, endLines, partLine, ledgerLines, sumAlong, logText, sessionTotal, output, textLimit}
-use Rattle.total.specs.Sums.{sum-bound}
+use Rattle.total.specs.Output.{sumLine, ledgerLine, roundedLine, endLines, partLine, ledgerLines, sumAlong, logText, sessionTotal, output, textLimit}
 use Rattle.total.specs.Listing.{Summable}
 use Rattle.total.specs.Summed.{take-few, summable}
 

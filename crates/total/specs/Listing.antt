@@ -12,8 +12,9 @@ use Rattle.records.specs.Words.{unpackHead, unpackPlace}
 use Rattle.records.specs.WordLaws.{head-fits}
 use Rattle.chain.specs.Buffers.{head}
 use Rattle.chain.specs.Operations.{Buffers, held, readLedgerPart}
+use Rattle.chain.specs.Values.{sumOf}
 use Rattle.readers.specs.Listed.{places, places-turn, places-end, places-all}
-use Rattle.total.specs.Output.{sumOf, ledgerLine, endLines, partLine, ledgerLines, sumAlong, logText}
+use Rattle.total.specs.Output.{ledgerLine, endLines, partLine, ledgerLines, sumAlong, logText}
 
 -- A log whose sums stay in 64 bits.
 pub record Summable (b : Buffers) : Type 0 where

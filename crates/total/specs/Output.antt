@@ -1,28 +1,18 @@
 -- The whole output of the run total: from the bytes of a session's input to the bytes that are printed.
-use Prim.Native.Nat.{ℕ, _+_, _%_, _^_}
-use mathlib.Core.List.{List, [], _∷_, _++_, map}
+use Prim.Native.Nat.{ℕ, _+_}
+use mathlib.Core.List.{List, [], _∷_, _++_}
 use lib.ListN.{length}
 use Rattle.text.specs.declared.lent.Printed.{Printed}
 use Rattle.text.specs.Bytes.{bytes}
 use Rattle.text.specs.Decimal.{decimal}
 use Rattle.text.specs.Lent.{lentAnswer, lentText}
 use Rattle.chain.specs.Operations.{Buffers, held, afterSteps, freshBuffers, readLedgerPart}
+use Rattle.chain.specs.Values.{sumOf}
 use Rattle.amounts.specs.Amounts.{fixed}
 use Rattle.amounts.specs.Rounding.{rounded}
 use Rattle.requests.specs.Lines.{Line}
 use Rattle.requests.specs.Requests.{taken}
 use Rattle.requests.specs.Opening.{sessionCapacity, opening, printed}
-
-unfoldable pub sum : List ℕ → ℕ
-sum [] = 0
-sum (n ∷ ns) = n + sum ns
-
--- The values of entry words, added up: the value of a word is its lowest 52 bits.
-abbrev pub valueOf : ℕ → ℕ
-valueOf word = word % 2 ^ 52
-
-abbrev pub sumOf : List ℕ → ℕ
-sumOf words = sum (map valueOf words)
 
 -- A line that ends in a sum, with twelve decimals.
 unfoldable pub sumLine : List ℕ → ℕ → List ℕ

@@ -13,12 +13,14 @@ use Rattle.chain.specs.Buffers.{head}
 use Rattle.chain.specs.Log.{ofLedger, alongList}
 use Rattle.chain.specs.Steps.{Step}
 use Rattle.chain.specs.Operations.{Buffers, held, afterSteps, freshBuffers, wordLedger, usedWords, readLedgerChecks, readLedgerPart, chainReading}
+use Rattle.chain.specs.Values.{sum, sumOf}
+use Rattle.chain.specs.Laws.Values.{sum-bound, values-cleared}
 use Rattle.chain.specs.Laws.Runs.{Good}
 use Rattle.chain.specs.Laws.Readings.{read-listed}
 use Rattle.requests.specs.Opening.{sessionCapacity}
 use Rattle.requests.specs.Begins.{stays-good, stays-long, reading-length}
-use Rattle.total.specs.Output.{sumOf, sumAlong, logText}
-use Rattle.total.specs.Sums.{sum-bound, sum-cleared, along-sum}
+use Rattle.total.specs.Output.{sumAlong, logText}
+use Rattle.total.specs.Sums.{along-sum}
 use Rattle.total.specs.Listing.{Summable}
 
 -- A part has no more words than the entry buffer.
@@ -45,7 +47,7 @@ pub log-sum : (b : Buffers) → Good b → sumAlong (held b .list) b ≡ sumOf (
 unfolding chainReading
 log-sum b g =
     along-sum b (held b .list) (λ i h. read-listed b g (getD (held b .list) i 0) i h refl .1)
-    ∙ sym (sum-cleared (alongList wordLedger (held b .list) (usedWords b)))
+    ∙ ap sum (sym (values-cleared (alongList wordLedger (held b .list) (usedWords b))))
 
 module _ (n : ℕ) (some : 1 ≤ n) (few : n ≤ clientLimit) (xs : List Step) where
   abbrev b : Buffers

@@ -1,4 +1,4 @@
--- Sums of values: their bound, what the loop over some words meets, and sums along a list of ledgers.
+-- Sums of values: what the loop over some words meets, and sums along a list of ledgers.
 use Prim.Native.Nat.{ℕ, suc, _+_, _-_, _*_, _%_, _^_, _<_, _≤_}
 use native.Mathlib.Omega.{arith}
 use native.Mathlib.Numerals.{add-one}
@@ -7,24 +7,10 @@ use mathlib.Core.List.{List, [], _∷_, _++_, map}
 use lib.ListN.{length, getD, drop, drop-of-length-le}
 use lib.Seq.{drop-cons}
 use Rattle.chain.specs.Log.{ofLedger, alongList}
-use Rattle.chain.specs.Operations.{Buffers, wordLedger, usedWords, readLedgerPart, cleared}
-use Rattle.total.specs.Output.{sum, sumOf, sumAlong}
-
-pub sum-bound : (ws : List ℕ) → sumOf ws ≤ length ws * (2 ^ 52 - 1)
-unfolding sum
-sum-bound [] = omega arith
-sum-bound (w ∷ ws) = omega (arith, sum-bound ws)
-
-sum-append : (vs ws : List ℕ) → sumOf (vs ++ ws) ≡ sumOf vs + sumOf ws
-unfolding sum
-sum-append [] ws = omega arith
-sum-append (v ∷ vs) ws = omega (arith, sum-append vs ws)
-
--- The client and ledger fields do not count.
-pub sum-cleared : (ws : List ℕ) → sumOf (map cleared ws) ≡ sumOf ws
-unfolding sum cleared
-sum-cleared [] = refl
-sum-cleared (w ∷ ws) = omega (arith, sum-cleared ws)
+use Rattle.chain.specs.Operations.{Buffers, wordLedger, usedWords, readLedgerPart}
+use Rattle.chain.specs.Values.{sum, sumOf}
+use Rattle.chain.specs.Laws.Values.{sum-append}
+use Rattle.total.specs.Output.{sumAlong}
 
 -- Words added up so far, and those still to be added.
 pub sum-turn : (ws : List ℕ) (i so-far : ℕ) → i < length ws → so-far + sumOf (drop i ws) ≡ sumOf ws

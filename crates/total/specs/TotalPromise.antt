@@ -10,17 +10,14 @@ use Rattle.chain.specs.declared.answer.Answer.the-variants.{Done}
 use Rattle.chain.specs.Log.{ofLedger, entryLedger}
 use Rattle.chain.specs.Operations.{stepAnswers, freshAnswer, afterFresh}
 use Rattle.chain.specs.Journal.{start, journal}
+use Rattle.chain.specs.Values.{sum, values}
 use Rattle.chain.specs.Promises.{told}
 use Rattle.requests.specs.Lines.{Line, lines}
 use Rattle.requests.specs.Requests.{taken}
 use Rattle.requests.specs.Opening.{inputLimit, sessionCapacity}
 use Rattle.requests.specs.FirstLine.{firstLine}
 use Rattle.requests.specs.Begins.{blank}
-use Rattle.total.specs.Output.{sum, ledgerLine, endLines, output}
-
--- The values of some writes.
-abbrev pub values : List Entry → List ℕ
-values es = map (λ e. e .value) es
+use Rattle.total.specs.Output.{ledgerLine, endLines, output}
 
 -- A line for each of some ledgers, from the writes into it; and the sums of these lines, added up.
 unfoldable pub writesLines : List ℕ → List Entry → List ℕ

@@ -12,31 +12,20 @@ use Rattle.chain.specs.Log.{ofLedger, entryLedger}
 use Rattle.chain.specs.Steps.{Step}
 use Rattle.chain.specs.Operations.{Buffers, held, afterSteps, freshBuffers, afterFresh, readLedgerPart}
 use Rattle.chain.specs.Journal.{Journal, storedWord, chainWord}
+use Rattle.chain.specs.Values.{sum, sumOf, values}
 use Rattle.chain.specs.Promises.{after, told, ShowsHistory}
 use Rattle.chain.specs.Laws.Runs.{Good}
+use Rattle.chain.specs.Laws.Accepted.{Small, accepted-small}
+use Rattle.chain.specs.Laws.Values.{stored-values, chain-values}
 use Rattle.requests.specs.Lines.{lines}
 use Rattle.requests.specs.Requests.{taken}
 use Rattle.requests.specs.Opening.{inputLimit, sessionCapacity, printed}
 use Rattle.requests.specs.FirstLine.{firstLine}
 use Rattle.requests.specs.Openings.{opens-good, opens-bad, opens-long}
 use Rattle.requests.specs.Begins.{blank, begun, left-by-fresh, history, stays-good}
-use Rattle.requests.specs.Accepted.{Small, accepted-small}
-use Rattle.total.specs.Output.{sum, valueOf, sumOf, endLines, ledgerLines, sumAlong, logText, sessionTotal, output}
-use Rattle.total.specs.TotalPromise.{values, writesLines, sumsAlong, listed, accepted, ShowsTotal, TotalShowsHistory}
+use Rattle.total.specs.Output.{endLines, ledgerLines, sumAlong, logText, sessionTotal, output}
+use Rattle.total.specs.TotalPromise.{writesLines, sumsAlong, listed, accepted, ShowsTotal, TotalShowsHistory}
 use Rattle.total.specs.Summed.{log-sum, sums-bound}
-
--- The values of words are those of their writes, which have 52 bits.
-stored-values : (es : List Entry) → Small es → map valueOf (map storedWord es) ≡ values es
-stored-values [] s = refl
-stored-values (e ∷ es) s =
-    let v : (e .ledger .0 * 2 ^ 56 + e .client * 2 ^ 52 + e .value) % 2 ^ 52 ≡ e .value = omega (arith, s .0) in
-    rw (v, stored-values es (s .1))
-
-chain-values : (es : List Entry) → Small es → map valueOf (map chainWord es) ≡ values es
-chain-values [] s = refl
-chain-values (e ∷ es) s =
-    let v : (e .client * 2 ^ 52 + e .value) % 2 ^ 52 ≡ e .value = omega (arith, s .0) in
-    rw (v, chain-values es (s .1))
 
 small-of : (k : ℕ) (es : List Entry) → Small es → Small (ofLedger entryLedger k es)
 unfolding ofLedger

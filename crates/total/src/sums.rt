@@ -3,7 +3,7 @@ use records::entry::CLIENT_UNIT;
 ghost use mathlib.Core.Path.{_≡_};
 ghost use Prim.Native.Nat.{_≤_};
 ghost use lib.ListN.{length};
-ghost use Rattle.total.specs.Output.{sumOf};
+ghost use Rattle.chain.specs.Values.{sumOf};
 
 // As many values as a log holds stay in 64 bits.
 pub fn sum_of(words: &[u64]) -> u64

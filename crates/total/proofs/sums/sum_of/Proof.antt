@@ -4,8 +4,9 @@ use native.Mathlib.Omega.{arith}
 use mathlib.Core.Path.{_≡_}
 use lib.ListN.{length, drop}
 use borrow.Author.Needs.{needs}
-use Rattle.total.specs.Output.{sumOf}
-use Rattle.total.specs.Sums.{sum-bound, sum-turn, sum-end}
+use Rattle.chain.specs.Values.{sumOf}
+use Rattle.chain.specs.Laws.Values.{sum-bound}
+use Rattle.total.specs.Sums.{sum-turn, sum-end}
 use Rattle.total.proofs.sums.sum_of.Statement.{statement}
 use Rattle.total.proofs.sums.sum_of.Tie as tie
 
