@@ -9,7 +9,7 @@
  * uint64_t (that to scores for uint16_t) and is valid for as many words or scores as the length beside it says; the buffers of one call do
  * not overlap: state, entries, output and scores are separate pieces of memory; and no other thread uses them during the call.
  *
- * Rust declares the same functions in an `extern "C"` block, and the two structs as #[repr(C)].
+ * Rust declares the same functions in an `extern "C"` block, and the structs as #[repr(C)].
  */
 #ifndef CINDROLF_H
 #define CINDROLF_H
@@ -37,6 +37,9 @@ uint64_t cindrolf_version(void);
 /* The most scores that one write takes, and the highest score. */
 #define CINDROLF_SCORES_LIMIT 4000
 #define CINDROLF_HIGHEST_SCORE 372
+
+/* The most words of a window. */
+#define CINDROLF_LONGEST_WINDOW 256
 
 /* The stage of a client in a well-formed log, 0 to 5: waiting, fetching, closing the last ledger, creating, appending, writing. */
 #define CINDROLF_STAGE(state, client) ((state)[1 + (client)] >> 60 & 7)
@@ -74,6 +77,7 @@ static inline uint64_t cindrolf_answer_place(uint64_t answer) { return answer & 
 #define CINDROLF_REFUSAL_CLIENT_COUNT UINT64_C(17)      /* the client count is 0 or above 16 */
 #define CINDROLF_REFUSAL_SCORE_COUNT UINT64_C(18)       /* there are no scores, or more than 4000 */
 #define CINDROLF_REFUSAL_SCORE_TOO_HIGH UINT64_C(19)    /* a score is above 372 */
+#define CINDROLF_REFUSAL_WINDOW_LENGTH UINT64_C(20)     /* the window's length is 0 or above 256 */
 
 /* The parts of an entry's word: ledger number (0 in what cindrolf_read_chain writes), client, and value. */
 static inline uint64_t cindrolf_word_ledger(uint64_t word) { return word >> 56; }
@@ -151,6 +155,20 @@ struct cindrolf_chain_count {
  * every log that began with cindrolf_fresh. */
 struct cindrolf_chain_count cindrolf_read_chain(const uint64_t *state, size_t state_length, const uint64_t *entries, size_t entries_length,
                                                 uint64_t *output, size_t output_length);
+
+/* Whether cindrolf_first_window found a window, 0 or 1, and its start: a place in the reading, from 0. Both are 0 where none was found, and
+ * on a refusal. */
+struct cindrolf_window_found {
+    uint64_t answer;
+    uint64_t found;
+    uint64_t start;
+};
+
+/* Finds the first window of the chain reading, that is `window` words of it in a row, whose values come to more than the limit. Done, or
+ * refusal 1, 2 or 20. None is found where no such window goes over, so also where the reading has fewer words. It changes nothing and needs
+ * no output buffer. */
+struct cindrolf_window_found cindrolf_first_window(const uint64_t *state, size_t state_length, const uint64_t *entries,
+                                                   size_t entries_length, uint64_t window, uint64_t limit);
 
 #ifdef __cplusplus
 }

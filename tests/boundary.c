@@ -56,6 +56,10 @@ static void refuse(uint64_t *s, size_t s_length, uint64_t *e, size_t e_length) {
     expect("read chain", chain.answer, WRONG_LENGTH);
     expect("words that it wrote", chain.count, 0);
     expect("the output", word, 7);
+    struct cindrolf_window_found window = cindrolf_first_window(s, s_length, e, e_length, 1, 0);
+    expect("first window", window.answer, WRONG_LENGTH);
+    expect("whether one is found", window.found, 0);
+    expect("its start", window.start, 0);
     expect("read chain, no output", cindrolf_read_chain(s, s_length, e, e_length, NULL, 0).answer, WRONG_LENGTH);
 }
 
@@ -131,6 +135,29 @@ static void check_places(void) {
         expect_written("a later write", cindrolf_write(state, CINDROLF_STATE_WORDS, entries, CINDROLF_ENTRY_WORDS, 0, 1), number, number - 5);
 }
 
+/* Windows of the entries 0 to 4, whose values are 7, 4000000000000000, 1000000000000, 100000000000 and 501. */
+static void check_window(uint64_t window, uint64_t limit, uint64_t found, uint64_t start) {
+    struct cindrolf_window_found given = cindrolf_first_window(state, CINDROLF_STATE_WORDS, entries, CINDROLF_ENTRY_WORDS, window, limit);
+    expect("first window", given.answer, CINDROLF_DONE);
+    expect("whether one is found", given.found, found);
+    expect("its start", given.start, start);
+}
+
+static void check_windows(void) {
+    check_window(2, UINT64_C(4000000000000006), 1, 0);
+    check_window(2, UINT64_C(4000000000000007), 1, 1);
+    check_window(3, UINT64_C(4101000000000000), 0, 0);
+    check_window(5, UINT64_C(4001100000000507), 1, 0);
+    check_window(5, UINT64_C(4001100000000508), 0, 0);
+    check_window(6, 0, 0, 0);
+    check_window(CINDROLF_LONGEST_WINDOW, 0, 0, 0);
+    struct cindrolf_window_found given =
+        cindrolf_first_window(state, CINDROLF_STATE_WORDS, entries, CINDROLF_ENTRY_WORDS, CINDROLF_LONGEST_WINDOW + 1, 0);
+    expect("a window of 257", given.answer, CINDROLF_REFUSED + CINDROLF_REFUSAL_WINDOW_LENGTH);
+    expect("whether one is found", given.found, 0);
+    expect("its start", given.start, 0);
+}
+
 int main(void) {
     expect("version", cindrolf_version(), CINDROLF_VERSION);
 
@@ -159,6 +186,7 @@ int main(void) {
     expect("its words", chain.count, 0);
     check_scores();
     check_wide();
+    check_windows();
     check_places();
     return wrong;
 }

@@ -8,10 +8,12 @@ use Rattle.chain.specs.declared.answer.Refusal.{Refusal}
 use Rattle.chain.specs.declared.answer.Answer.{Answer}
 use Rattle.chain.specs.declared.answer.Answer.the-variants.{Done, Refused}
 use Rattle.chain.specs.declared.answer.ChainAnswer.{ChainAnswer}
-use Rattle.chain.specs.Answers.{answerNumber, chainNumber, chainCount}
+use Rattle.chain.specs.declared.answer.WindowAnswer.{WindowAnswer}
+use Rattle.chain.specs.Answers.{answerNumber, chainNumber, chainCount, windowNumber, windowFound, windowStart}
 use Rattle.chain.specs.Steps.{Step}
 use Rattle.chain.specs.Operations.{Buffers, stepAnswer, afterStep, Result, freshChecks, freshAnswer, afterFresh}
 use Rattle.chain.specs.Operations.{readLedgerChecks, readLedgerAnswer, readLedgerPart, readChainAnswer, readChainOutput}
+use Rattle.chain.specs.Windows.{firstWindow}
 use Rattle.chain.specs.Laws.Numbers.{NumbersBelow, step-numbers}
 use Rattle.fresh.specs.Fresh.{FreshResult}
 use Rattle.readers.specs.Locate.{partStart, Locates}
@@ -44,6 +46,12 @@ pub record ChainCall (b : Buffers) (output : List ℕ) (answer count : ℕ) (aft
   pub answers : answer ≡ chainNumber (readChainAnswer b output)
   pub counts : count ≡ chainCount (readChainAnswer b output)
   pub output-words : after ≡ readChainOutput b output
+
+-- The search for a window: its answer, whether one was found, and where it starts.
+pub record WindowCall (n limit : ℕ) (b : Buffers) (answer found start : ℕ) : Type 0 where
+  pub answers : answer ≡ windowNumber (firstWindow n limit b)
+  pub founds : found ≡ windowFound (firstWindow n limit b)
+  pub starts : start ≡ windowStart (firstWindow n limit b)
 
 -- Fresh and read ledger number no entry.
 numbers-none : (cs : List (Check Refusal)) → NumbersBelow (first cs Refused Done)
@@ -80,3 +88,7 @@ module _ {l : ℕ} {b : Buffers} {a : Answer} {start count : ℕ} (o : Locates l
 pub chain-called : {b : Buffers} {output after : List ℕ} {a : ChainAnswer} {r n : ℕ} → a ≡ readChainAnswer b output → after ≡ readChainOutput b output
     → r ≡ chainNumber a → n ≡ chainCount a → ChainCall b output r n after
 chain-called e o p q = record { answers = p ∙ ap chainNumber e; counts = q ∙ ap chainCount e; output-words = o }
+
+pub window-called : {n limit : ℕ} {b : Buffers} {a : WindowAnswer} {r f i : ℕ} → a ≡ firstWindow n limit b → r ≡ windowNumber a → f ≡ windowFound a
+    → i ≡ windowStart a → WindowCall n limit b r f i
+window-called e p q s = record { answers = p ∙ ap windowNumber e; founds = q ∙ ap windowFound e; starts = s ∙ ap windowStart e }

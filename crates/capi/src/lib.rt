@@ -4,3 +4,4 @@ mod number;
 pub mod reading;
 pub mod step;
 pub mod version;
+pub mod window;

@@ -1,9 +1,10 @@
-//! What a write, a close, the check, a reading and a sum of scores cost, beside plain Rust, in one run. See `--help`.
+//! What a write, a close, the check, a reading, a search for a window and a sum of scores cost, beside plain Rust, in one run. See `--help`.
 
 mod checks;
 mod measure;
 mod plot;
 mod sums;
+mod windows;
 
 use cindrolf::{Progress, calls};
 use compare::arguments;
@@ -20,7 +21,8 @@ use std::process::ExitCode;
 use std::time::Duration;
 
 const HELP: &str = "\
-Times a write, a close, the check, a reading and a sum of scores of the proved library beside plain Rust, in turn.
+Times a write, a close, the check, a reading, a search for a window and a sum of scores of the proved library beside
+plain Rust, in turn.
 
   --rounds N     rounds for each table (default 201)
   --plot FILE    where the plot of cost against entries and ledgers goes (default target/bench/cost.svg)
@@ -135,6 +137,19 @@ fn reads(log: &Buffers) -> Vec<Candidate<'_>> {
     ]
 }
 
+/// A search in which no window goes over the limit, so that the walk goes to the end.
+fn searches(log: &Buffers, length: u64) -> Vec<Candidate<'_>> {
+    let limit = 1 << 60;
+    assert_eq!(calls::first_window(&log.state, &log.entries, length, limit), Ok(None));
+    vec![
+        check("library", log, move |state, entries| calls::first_window(state, entries, black_box(length), limit)),
+        check("idiomatic walk", log, move |state, entries| {
+            windows::first_over(state, entries, black_box(length), limit)
+        }),
+        check("library check", log, calls::well_formed),
+    ]
+}
+
 /// The sum of 4,000 scores. The library's is its write of them, less its write of their sum.
 fn sums_of_scores(log: &Buffers, rounds: usize) -> Vec<Times> {
     let mut random = Random::new(1);
@@ -198,6 +213,10 @@ fn tables(rounds: usize) {
         print(name, "close own", &compared(&interleaved(closes(to_read), rounds, SLICE)));
         print(name, "check", &compared(&interleaved(all_checks(to_read), rounds, SLICE)));
         print(name, "read chain", &compared(&interleaved(reads(to_read), rounds, SLICE)));
+    }
+    for (name, length) in [("window 1", 1), ("window 16", 16), ("window 256", 256)] {
+        print("full", name, &compared(&interleaved(searches(&logs[2].2, length), rounds, SLICE)));
+        print("full, one ledger", name, &compared(&interleaved(searches(&chain(16, 1, 4096), length), rounds, SLICE)));
     }
     print("empty", "4000 scores", &sums_of_scores(&logs[0].1, rounds));
     println!(

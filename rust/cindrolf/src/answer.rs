@@ -10,6 +10,10 @@ pub struct EntryNumber(pub u64);
 #[derive(Clone, Copy, Debug, PartialEq, Eq, Hash, PartialOrd, Ord)]
 pub struct LedgerPlace(pub u64);
 
+/// A place in the chain reading, from 0.
+#[derive(Clone, Copy, Debug, PartialEq, Eq, Hash, PartialOrd, Ord)]
+pub struct ReadingPlace(pub u64);
+
 /// Where an accepted write is stored.
 #[derive(Clone, Copy, Debug, PartialEq, Eq, Hash)]
 pub struct Position {
@@ -121,7 +125,7 @@ mod tests {
     // A number is unknown to an operation that can't answer it, even where another operation can.
     #[test]
     fn unknown_numbers() {
-        for number in [3, 255, 256, 256 + 20, 65535, 65536, 0xFFFF_FFFF, 0x2_0000_0000] {
+        for number in [3, 255, 256, 256 + 21, 65535, 65536, 0xFFFF_FFFF, 0x2_0000_0000] {
             let unknown = Error::UnknownAnswer(number);
             assert_eq!(done(number), Err(unknown));
             assert_eq!(close_last(number), Err(unknown));

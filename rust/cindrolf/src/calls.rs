@@ -16,7 +16,7 @@
 //! null and valid for their lengths. A `&mut` slice is lent to nobody else meanwhile, so what the library changes
 //! overlaps nothing. Each block's comment adds what is special to it.
 
-use crate::{CloseLast, Error, LedgerNumber, Position, Progress, answer, raw};
+use crate::{CloseLast, Error, LedgerNumber, Position, Progress, ReadingPlace, answer, raw};
 
 // An operation that changes both buffers, by the numbers that it takes and the answers that it can give.
 macro_rules! operation {
@@ -134,4 +134,19 @@ pub fn read_chain(state: &[u64], entries: &[u64], output: &mut [u64]) -> Result<
     answer::done(read.answer)?;
     let count = read.count as usize;
     if count <= output.len() { Ok(count) } else { Err(Error::UnknownAnswer(read.count)) }
+}
+
+/// The start of the first window of the chain reading whose values come to more than the limit, or none. A window is
+/// `length` words of the reading in a row.
+pub fn first_window(state: &[u64], entries: &[u64], length: u64, limit: u64) -> Result<Option<ReadingPlace>, Error> {
+    // SAFETY: nothing is changed, and both numbers are any numbers; the answer is a struct of three numbers.
+    let window = unsafe {
+        raw::cindrolf_first_window(state.as_ptr(), state.len(), entries.as_ptr(), entries.len(), length, limit)
+    };
+    answer::done(window.answer)?;
+    match window.found {
+        0 => Ok(None),
+        1 => Ok(Some(ReadingPlace(window.start))),
+        found => Err(Error::UnknownAnswer(found)),
+    }
 }

@@ -138,10 +138,12 @@ refusals! {
     ScoreCount = 18, "the number of scores is not 1 to 4,000";
     /// A score is above 372.
     ScoreTooHigh = 19, "a score is above 372";
+    /// The window's length is 0 or above 256.
+    WindowLength = 20, "the window's length is not 1 to 256";
 }
 
 impl Refusal {
-    /// The refusal's number, 1 to 19.
+    /// The refusal's number, 1 to 20.
     pub const fn number(self) -> u64 {
         self as u64
     }
@@ -161,7 +163,7 @@ mod tests {
 
     #[test]
     fn numbers() {
-        assert_eq!(Refusal::ALL.len(), 19);
+        assert_eq!(Refusal::ALL.len(), 20);
         for (number, &refusal) in (1..).zip(Refusal::ALL) {
             assert_eq!(refusal.number(), number);
             assert_eq!(Refusal::from_number(number), Some(refusal));

@@ -63,7 +63,7 @@ pub mod raw;
 mod version;
 mod view;
 
-pub use answer::{CloseLast, EntryNumber, LedgerNumber, LedgerPlace, Position, Progress};
+pub use answer::{CloseLast, EntryNumber, LedgerNumber, LedgerPlace, Position, Progress, ReadingPlace};
 pub use error::{Error, Refusal};
 pub use log::{Log, LogMut, LogRef};
 pub use version::{VERSION, check_version};
@@ -81,6 +81,8 @@ pub const MAX_VALUE: u64 = (1 << 52) - 1;
 pub const SCORES_LIMIT: usize = 4000;
 /// The highest score.
 pub const HIGHEST_SCORE: u16 = 372;
+/// The most words of a window.
+pub const LONGEST_WINDOW: u64 = 256;
 
 /// The ledger number in an entry's word. The words that read chain writes have none.
 pub const fn ledger_of(word: u64) -> Option<LedgerNumber> {

@@ -1,7 +1,8 @@
 //! A log that owns its buffers, and logs that borrow them.
 
 use crate::{
-    CloseLast, ENTRY_WORDS, Error, LedgerNumber, Position, Progress, Refusal, STATE_WORDS, View, calls, check_version,
+    CloseLast, ENTRY_WORDS, Error, LedgerNumber, Position, Progress, ReadingPlace, Refusal, STATE_WORDS, View, calls,
+    check_version,
 };
 
 /// A log that owns its two buffers.
@@ -178,6 +179,28 @@ impl<'a> LogRef<'a> {
     pub fn read_chain(&self, output: &mut [u64]) -> Result<usize, Error> {
         calls::read_chain(self.state, self.entries, output)
     }
+
+    /// Where the first window of the chain reading starts whose values come to more than the limit, or none. A window
+    /// is `length` words of the reading in a row, 1 to [`LONGEST_WINDOW`](crate::LONGEST_WINDOW).
+    ///
+    /// ```
+    /// use cindrolf::{Log, ReadingPlace};
+    ///
+    /// let mut log = Log::fresh(1)?;
+    /// log.become_leader(0)?;
+    /// log.fetch(0)?;
+    /// log.create(0)?;
+    /// let _ = log.append(0)?;
+    /// for value in [1, 9, 2, 8] {
+    ///     log.write(0, value)?;
+    /// }
+    /// assert_eq!(log.as_ref().first_window(2, 10)?, Some(ReadingPlace(1)));
+    /// assert_eq!(log.as_ref().first_window(2, 11)?, None);
+    /// # Ok::<(), cindrolf::Error>(())
+    /// ```
+    pub fn first_window(&self, length: u64, limit: u64) -> Result<Option<ReadingPlace>, Error> {
+        calls::first_window(self.state, self.entries, length, limit)
+    }
 }
 
 macro_rules! operations {
@@ -263,6 +286,12 @@ macro_rules! operations {
             /// and answers how many they are.
             pub fn read_chain(&self, output: &mut [u64]) -> Result<usize, Error> {
                 self.as_ref().read_chain(output)
+            }
+
+            /// Where the first window of the chain reading starts whose values come to more than the limit, or none. A
+            /// window is `length` words of the reading in a row, 1 to [`LONGEST_WINDOW`](crate::LONGEST_WINDOW).
+            pub fn first_window(&self, length: u64, limit: u64) -> Result<Option<ReadingPlace>, Error> {
+                self.as_ref().first_window(length, limit)
             }
         }
     )*};

@@ -14,6 +14,13 @@ pub struct ChainCount {
     pub count: u64,
 }
 
+#[repr(C)]
+pub struct WindowFound {
+    pub answer: u64,
+    pub found: u64,
+    pub start: u64,
+}
+
 // Operations that change both buffers, each with the numbers that it takes.
 macro_rules! operations {
     ($($name:ident($($number:ident),*);)*) => {
@@ -69,4 +76,12 @@ unsafe extern "C" {
         output: *mut u64,
         output_len: usize,
     ) -> ChainCount;
+    pub fn cindrolf_first_window(
+        state: *const u64,
+        state_len: usize,
+        entries: *const u64,
+        entries_len: usize,
+        window: u64,
+        limit: u64,
+    ) -> WindowFound;
 }

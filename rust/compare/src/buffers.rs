@@ -42,11 +42,42 @@ fn calls(random: &mut Random, buffers: &Buffers) -> Vec<Call> {
             calls.push(Call::Step(random.pick(&ready), step));
         }
     }
+    let reading = reading(buffers);
     for _ in 0..2 {
         calls.push(Call::ReadLedger(any_ledger(random, &head, buffers)));
         calls.push(Call::Fresh(any_count(random)));
+        calls.push(any_window(random, &reading));
     }
     calls
+}
+
+/// A window's length and a limit: often what the greatest window of this reading comes to, which is not over, or one less.
+pub fn any_window(random: &mut Random, reading: &[u64]) -> Call {
+    let length = match random.below(4) {
+        0 => random.pick(&[0, 1, 2, 255, 256, 257, (1 << 32) + 1, u64::MAX]),
+        1 => random.between(1, 256),
+        _ => random.between(1, 12),
+    };
+    let sum = |window: &[u64]| window.iter().map(|&word| Entry::load(word).value).sum();
+    let greatest: u64 = match length {
+        1..=256 => reading.windows(length as usize).map(sum).max().unwrap_or(0),
+        _ => 0,
+    };
+    let limit = match random.below(6) {
+        0 => random.pick(&[0, 1, u64::MAX]),
+        1 => random.below(1 << 60),
+        2 => random.below(greatest + 1),
+        3 => greatest,
+        _ => greatest.saturating_sub(1),
+    };
+    Call::FirstWindow(length, limit)
+}
+
+/// The chain reading, where the buffers hold a log.
+fn reading(buffers: &Buffers) -> Vec<u64> {
+    let mut output = vec![0; reading_length(buffers)];
+    let _ = words::read_chain(&buffers.state, &buffers.entries, &mut output);
+    output
 }
 
 /// The stage at which a client can take the step.

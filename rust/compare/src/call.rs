@@ -47,6 +47,8 @@ pub enum Call {
     ReadLedger(u64),
     /// Read chain.
     ReadChain,
+    /// The search for a window, with its length and the limit.
+    FirstWindow(u64, u64),
 }
 
 /// As a report has it: a long list of scores by its ends and its length.
@@ -84,6 +86,15 @@ pub enum Outcome {
         /// How many words it wrote.
         count: u64,
     },
+    /// The answer of the search for a window, whether it found one, and its start: 0 and 0 where it found none.
+    Window {
+        /// Done or a refusal.
+        answer: Answer,
+        /// 0 or 1.
+        found: u64,
+        /// Where it starts.
+        start: u64,
+    },
     /// The crate for controllers doesn't hand on what the function below it gave.
     NotHandedOn(Box<Outcome>),
 }
@@ -92,14 +103,17 @@ impl Outcome {
     /// The answer, where it is one.
     pub fn answer(&self) -> Option<Answer> {
         match self {
-            Outcome::Answer(answer) | Outcome::Part { answer, .. } | Outcome::Count { answer, .. } => Some(*answer),
+            Outcome::Answer(answer)
+            | Outcome::Part { answer, .. }
+            | Outcome::Count { answer, .. }
+            | Outcome::Window { answer, .. } => Some(*answer),
             Outcome::WellFormed(_) | Outcome::NotHandedOn(_) => None,
         }
     }
 
     /// Whether the call may have changed a buffer.
     pub fn changes(&self) -> bool {
-        let reads = matches!(self, Outcome::WellFormed(_) | Outcome::Part { .. });
+        let reads = matches!(self, Outcome::WellFormed(_) | Outcome::Part { .. } | Outcome::Window { .. });
         !reads && !matches!(self.answer(), Some(Answer::Refused(_)))
     }
 }
@@ -122,6 +136,16 @@ pub fn model(call: Call, lent: &mut Lent) -> Outcome {
             Ok(count) => Outcome::Count { answer: Answer::Done, count: count as u64 },
             Err(number) => Outcome::Count { answer: Answer::Refused(number), count: 0 },
         },
+        Call::FirstWindow(length, limit) => {
+            window(words::first_window(state, entries, length, limit).map_err(Answer::Refused))
+        }
+    }
+}
+
+fn window(given: Result<Option<u64>, Answer>) -> Outcome {
+    match given {
+        Ok(start) => Outcome::Window { answer: Answer::Done, found: start.is_some() as u64, start: start.unwrap_or(0) },
+        Err(answer) => Outcome::Window { answer, found: 0, start: 0 },
     }
 }
 
@@ -140,6 +164,7 @@ pub fn library(call: Call, lent: &mut Lent) -> Outcome {
         Call::WellFormed => Outcome::WellFormed(calls::well_formed(state, entries)),
         Call::ReadLedger(ledger) => library_ledger(lent, ledger),
         Call::ReadChain => library_chain(lent),
+        Call::FirstWindow(length, limit) => library_window(lent, length, limit),
     }
 }
 
@@ -184,11 +209,23 @@ fn library_chain(lent: &mut Lent) -> Outcome {
     if outcome == handed_on { outcome } else { Outcome::NotHandedOn(Box::new(outcome)) }
 }
 
+fn library_window(lent: &Lent, length: u64, limit: u64) -> Outcome {
+    use cindrolf::{calls, raw};
+    let (state, entries) = (&*lent.state, &*lent.entries);
+    // SAFETY: both slices are valid for their lengths, and nothing is changed.
+    let given = unsafe {
+        raw::cindrolf_first_window(state.as_ptr(), state.len(), entries.as_ptr(), entries.len(), length, limit)
+    };
+    let outcome = Outcome::Window { answer: numbered(given.answer), found: given.found, start: given.start };
+    let handed_on = calls::first_window(state, entries, length, limit).map(|start| start.map(|place| place.0));
+    if outcome == window(handed_on.map_err(failed)) { outcome } else { Outcome::NotHandedOn(Box::new(outcome)) }
+}
+
 /// A reader's answer by its number. Readers answer done or a refusal; anything else shows as a difference.
 fn numbered(number: u64) -> Answer {
     match number {
         0 => Answer::Done,
-        257..=275 => Answer::Refused(number - 256),
+        257..=276 => Answer::Refused(number - 256),
         _ => Answer::Refused(u64::MAX),
     }
 }

@@ -1,5 +1,6 @@
 //! Random histories from fresh logs, on the library, on the model of the words and on LedgerChaining's terms.
 
+use crate::buffers::any_window;
 use crate::call::{Buffers, Call, Outcome, Subject};
 use crate::shrink::{shorten, with_fewer_scores};
 use crate::sides::Sides;
@@ -36,10 +37,11 @@ pub fn compare(subject: Subject, sides: &mut Sides, random: &mut Random) -> Resu
     let length = if random.chance(20) { LONGEST } else { random.between(1, 600) };
     let mut run = Run::start(sides, history.client_count).map_err(|text| report(subject, &history, text))?;
     for _ in 0..length {
-        let call = match random.below(40) {
+        let call = match random.below(50) {
             0 => Call::WellFormed,
             1 => Call::ReadLedger(random.below(run.source.md_next_lid + 1)),
             2 => Call::ReadChain,
+            3 => any_window(random, &run.source.chain()),
             _ => {
                 let (client, step) = profile.next(random, &run.source);
                 Call::Step(client, step)
@@ -76,6 +78,12 @@ impl<'a> Run<'a> {
             (Call::ReadChain, Outcome::Count { answer: Answer::Done, count }) => {
                 self.sides.buffers().output[..*count as usize] == self.source.chain()
             }
+            (Call::FirstWindow(length, limit), Outcome::Window { answer: Answer::Done, found, start }) => {
+                first_over(&self.source.chain(), length as usize, limit) == (*found == 1).then_some(*start as usize)
+            }
+            (Call::FirstWindow(length, _), _) => {
+                outcome.answer() == Some(Answer::Refused(20)) && !(1..=256).contains(&length)
+            }
             (_, outcome) => *outcome == Outcome::WellFormed(true),
         };
         if agrees {
@@ -99,6 +107,13 @@ impl<'a> Run<'a> {
         let (state, entries) = self.source.buffers();
         answers && state == self.sides.buffers().state && entries == self.sides.buffers().entries
     }
+}
+
+/// The first start of a stretch of a reading whose values come to more than the limit.
+fn first_over(reading: &[u64], length: usize, limit: u64) -> Option<usize> {
+    let over =
+        |start: &usize| reading[*start..start + length].iter().map(|word| word & ((1 << 52) - 1)).sum::<u64>() > limit;
+    (0..(reading.len() + 1).saturating_sub(length)).find(over)
 }
 
 /// What a history shows, if it fails.

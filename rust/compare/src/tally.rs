@@ -4,8 +4,8 @@ use crate::call::{Call, Outcome};
 use model::{Answer, Step};
 use std::fmt;
 
-/// The operations, in the reference's order, each with the answers that it can give: 1 to 19 are refusals. None gives 14.
-const OPERATIONS: [(&str, &[usize]); 14] = [
+/// The operations, in the reference's order, each with the answers that it can give: 1 to 20 are refusals. None gives 14.
+const OPERATIONS: [(&str, &[usize]); 15] = [
     ("fresh", &[DONE, 1, 17]),
     ("name", &[DONE, 1, 2, 3, 4]),
     ("become", &[DONE, 1, 2, 3, 5, 6]),
@@ -20,15 +20,18 @@ const OPERATIONS: [(&str, &[usize]); 14] = [
     ("well formed", &[YES, NO]),
     ("read ledger", &[DONE, 1, 2, 15]),
     ("read chain", &[DONE, 1, 2, 16]),
+    ("first window", &[FOUND, NONE, 1, 2, 20]),
 ];
 
-const DONE: usize = 20;
-const WAS_CLOSED: usize = 21;
-const BEHIND: usize = 22;
-const ENTRY: usize = 23;
-const YES: usize = 24;
-const NO: usize = 25;
-const NAMES: [&str; 6] = ["done", "was closed", "behind", "entry", "yes", "no"];
+const DONE: usize = 21;
+const WAS_CLOSED: usize = 22;
+const BEHIND: usize = 23;
+const ENTRY: usize = 24;
+const YES: usize = 25;
+const NO: usize = 26;
+const FOUND: usize = 27;
+const NONE: usize = 28;
+const NAMES: [&str; 8] = ["done", "was closed", "behind", "entry", "yes", "no", "found", "none"];
 
 /// The counts of one operation, by answer.
 type Counts = [u64; DONE + NAMES.len()];
@@ -77,12 +80,14 @@ fn operation(call: Call) -> usize {
         Call::WellFormed => 11,
         Call::ReadLedger(_) => 12,
         Call::ReadChain => 13,
+        Call::FirstWindow(..) => 14,
     }
 }
 
 fn column(outcome: &Outcome) -> usize {
     match (outcome, outcome.answer()) {
         (_, Some(Answer::Refused(number))) => number as usize,
+        (Outcome::Window { found, .. }, Some(Answer::Done)) => [NONE, FOUND][(*found != 0) as usize],
         (_, Some(Answer::Done)) => DONE,
         (_, Some(Answer::WasClosed)) => WAS_CLOSED,
         (_, Some(Answer::Behind)) => BEHIND,

@@ -178,6 +178,37 @@ fn value_after_the_fence(call: Call, lent: &mut Lent) -> Outcome {
     outcome
 }
 
+// A window whose values come to the limit, and to no more, is taken for one over it.
+fn at_the_limit_is_over(call: Call, lent: &mut Lent) -> Outcome {
+    match call {
+        Call::FirstWindow(length, limit) if limit > 0 => call::model(Call::FirstWindow(length, limit - 1), lent),
+        call => call::model(call, lent),
+    }
+}
+
+// The last window is not looked at, nor the only one.
+fn leaves_out_the_last_window(call: Call, lent: &mut Lent) -> Outcome {
+    let outcome = call::model(call, lent);
+    if let (Call::FirstWindow(length, _), Outcome::Window { found: 1, start, .. }) = (call, &outcome) {
+        let mut output = vec![0; 255 * 4096];
+        let reading = Lent { state: lent.state, entries: lent.entries, output: &mut output };
+        if on_copies(Call::ReadChain, &reading) == (Outcome::Count { answer: Answer::Done, count: start + length }) {
+            return Outcome::Window { answer: Answer::Done, found: 0, start: 0 };
+        }
+    }
+    outcome
+}
+
+#[test]
+fn finds_a_wrong_window() {
+    let report = first(histories::compare, at_the_limit_is_over, 2000).expect("the fault is found");
+    assert!(report.contains("found: 1, start: "), "{report}");
+    for compare in [histories::compare, buffers::compare] {
+        let report = first(compare, leaves_out_the_last_window, 2000).expect("the fault is found");
+        assert!(report.contains("the model Window { answer: Done, found: 1, start: "), "{report}");
+    }
+}
+
 #[test]
 fn finds_a_wide_value_in_the_wrong_order() {
     let report = first(histories::compare, value_first, 100).expect("the fault is found");
@@ -235,9 +266,10 @@ fn finds_a_wrong_word() {
 #[test]
 fn finds_a_gap() {
     let report = first(histories::compare, fence_by_place, 200).expect("the fault is found");
-    // Two create, the second appends first. Each ledger from there to the one that is read takes three steps more.
+    // Two create, the second appends first. Each ledger from there to the one that is read takes six steps more, with a
+    // handover.
     let ledger: usize = report.split(['(', ')']).nth(1).and_then(|number| number.parse().ok()).expect("a reading");
-    assert!(history(&report).len() <= 9 + 3 * (ledger - 2), "{report}");
+    assert!(history(&report).len() <= 9 + 6 * (ledger - 2), "{report}");
 }
 
 #[test]

@@ -1,0 +1,4 @@
+pub mod Left
+pub mod Walk
+pub mod Walking
+pub mod FirstWindow
