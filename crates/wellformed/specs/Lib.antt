@@ -1,6 +1,9 @@
 pub mod EveryLaws
+pub mod Gathered
 pub mod Parts
-pub mod Lowest
+pub mod Rising
+pub mod Lanes
+pub mod EntryFaults
 pub mod PartLaws
 pub mod WordLaws
 pub mod VerdictLaws

@@ -97,6 +97,7 @@ fn writes(log: &Buffers) -> Vec<Candidate<'_>> {
     assert!(calls::write(&mut log.state.clone(), &mut log.entries.clone(), 0, 7).is_ok());
     vec![
         write("library", log, |state, entries| calls::write(state, entries, 0, 7)),
+        check("its check alone", log, calls::well_formed),
         write("model", log, |state, entries| words::step(state, entries, 0, Step::Write(7))),
         write("idiomatic check", log, |state, entries| {
             if checks::idiomatic(state, entries) {
