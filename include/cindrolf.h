@@ -79,6 +79,19 @@ static inline uint64_t cindrolf_answer_place(uint64_t answer) { return answer & 
 #define CINDROLF_REFUSAL_SCORE_TOO_HIGH UINT64_C(19)    /* a score is above 372 */
 #define CINDROLF_REFUSAL_WINDOW_LENGTH UINT64_C(20)     /* the window's length is 0 or above 256 */
 
+/* What cindrolf_advise answers where it does not refuse: the number of a step, or that there is none to take. The steps are numbered in
+ * this order; 5 is no step's number. Name is never advised. */
+#define CINDROLF_STEP_NAME UINT64_C(0)
+#define CINDROLF_STEP_BECOME UINT64_C(1)
+#define CINDROLF_STEP_ABDICATE UINT64_C(2)
+#define CINDROLF_STEP_FETCH UINT64_C(3)
+#define CINDROLF_STEP_CLOSE_LAST UINT64_C(4)
+#define CINDROLF_STEP_CREATE UINT64_C(6)
+#define CINDROLF_STEP_APPEND UINT64_C(7)
+#define CINDROLF_STEP_WRITE UINT64_C(8)
+#define CINDROLF_STEP_CLOSE_OWN UINT64_C(9)
+#define CINDROLF_NO_STEP UINT64_C(15)
+
 /* The parts of an entry's word: ledger number (0 in what cindrolf_read_chain writes), client, and value. */
 static inline uint64_t cindrolf_word_ledger(uint64_t word) { return word >> 56; }
 static inline uint64_t cindrolf_word_client(uint64_t word) { return (word >> 52) & 15; }
@@ -132,6 +145,12 @@ uint64_t cindrolf_write_scores(uint64_t *state, size_t state_length, uint64_t *e
 /* The leader closes its own ledger, which may be empty, without a fence, and has to create one next: done. If another closed it: behind, and
  * the client stops leading. Or refusal 7, 8 or 9. */
 uint64_t cindrolf_close_own(uint64_t *state, size_t state_length, uint64_t *entries, size_t entries_length, uint64_t client);
+
+/* The step that a client should take next, as numbered above; CINDROLF_NO_STEP where another client is named and this one does not lead; or
+ * refusal 1, 2 or 3. It changes nothing. On a log that began with cindrolf_fresh, with two ledger numbers and one entry left, a named leader
+ * that takes these steps has a write accepted at the ninth or earlier, as long as no other client steps, nobody is named, and what it
+ * writes is neither too wide nor refused for its scores. Limits are not looked at: create and write are advised where refusal 10 or 13 waits. */
+uint64_t cindrolf_advise(const uint64_t *state, size_t state_length, const uint64_t *entries, size_t entries_length, uint64_t client);
 
 /* One ledger's part of the entry buffer: the words entries[start] to entries[start + count - 1]. Both are 0 where it is empty. */
 struct cindrolf_ledger_part {

@@ -1,5 +1,5 @@
 /* The version of the library, null pointers with length 0, which every function takes for an empty buffer, an empty ledger that
- * its leader closes, the limits of lent scores, wide values, and the numbers and places that writes answer.
+ * its leader closes, the limits of lent scores, wide values, the numbers and places that writes answer, and those of advised steps.
  * It compiles as C and as C++. */
 #include "cindrolf.h"
 
@@ -48,6 +48,7 @@ static void refuse(uint64_t *s, size_t s_length, uint64_t *e, size_t e_length) {
     expect("write scores", cindrolf_write_scores(s, s_length, e, e_length, 0, scores, 1), WRONG_LENGTH);
     expect("write no scores", cindrolf_write_scores(s, s_length, e, e_length, 0, NULL, 0), WRONG_LENGTH);
     expect("well formed", cindrolf_well_formed(s, s_length, e, e_length), false);
+    expect("advise", cindrolf_advise(s, s_length, e, e_length, 1), WRONG_LENGTH);
     struct cindrolf_ledger_part part = cindrolf_read_ledger(s, s_length, e, e_length, 1);
     expect("read ledger", part.answer, WRONG_LENGTH);
     expect("start of its part", part.start, 0);
@@ -103,6 +104,39 @@ static void check_scores(void) {
         expect("a score after the writes", scores[i], 0);
     expect("the first score", scores[0], CINDROLF_HIGHEST_SCORE);
     expect("the last score", scores[CINDROLF_SCORES_LIMIT - 1], CINDROLF_HIGHEST_SCORE + 1);
+}
+
+/* The number of each step that is advised, to client 0, which is named, and to client 1; client 2 is unknown. */
+static uint64_t advise(uint64_t client) { return cindrolf_advise(state, CINDROLF_STATE_WORDS, entries, CINDROLF_ENTRY_WORDS, client); }
+
+static void check_advice(void) {
+    const struct {
+        operation *call;
+        uint64_t client, first, second;
+    } rows[] = {
+        /* A step, and what both clients are told after it. */
+        {cindrolf_fresh, 2, 1, 15},
+        {cindrolf_become, 0, 3, 15},
+        {cindrolf_fetch, 0, 6, 15},
+        {cindrolf_create, 0, 7, 15},
+        {cindrolf_append, 0, 8, 15},
+        {cindrolf_name, 1, 2, 1},
+        {cindrolf_become, 1, 2, 3},
+        {cindrolf_fetch, 1, 2, 4},
+        {cindrolf_close_last, 1, 2, 6},
+        {cindrolf_name, 0, 9, 2},
+        {cindrolf_close_own, 0, 1, 2},
+        {cindrolf_abdicate, 1, 1, 15},
+    };
+    for (size_t i = 0; i < sizeof rows / sizeof rows[0]; i++) {
+        uint64_t answer = rows[i].call(state, CINDROLF_STATE_WORDS, entries, CINDROLF_ENTRY_WORDS, rows[i].client);
+        expect("a step that is advised", (uint64_t)(answer < CINDROLF_REFUSED), true);
+        expect("what client 0 is told", advise(0), rows[i].first);
+        expect("what client 1 is told", advise(1), rows[i].second);
+        expect("what client 2 is told", advise(2), CINDROLF_REFUSED + CINDROLF_REFUSAL_UNKNOWN_CLIENT);
+    }
+    state[526] = 1;
+    expect("what a damaged log gives", advise(2), CINDROLF_REFUSED + CINDROLF_REFUSAL_NOT_WELL_FORMED);
 }
 
 /* Client 0 closes its ledger, which has no entry yet, and goes on to the next. */
@@ -188,5 +222,6 @@ int main(void) {
     check_wide();
     check_windows();
     check_places();
+    check_advice();
     return wrong;
 }

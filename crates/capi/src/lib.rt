@@ -1,4 +1,5 @@
 // The log for callers in C, C++ and Rust. include/cindrolf.h declares the functions that are exported here.
+pub mod advice;
 pub mod log;
 mod number;
 pub mod reading;

@@ -49,6 +49,27 @@ pub enum Progress {
     Behind,
 }
 
+/// The step that a client should take next.
+#[derive(Clone, Copy, Debug, PartialEq, Eq, Hash)]
+pub enum Advice {
+    /// The client is named, and does not lead.
+    Become,
+    /// The client leads, and another is named.
+    Abdicate,
+    /// The client is named, as for every step below, and at the step's stage.
+    Fetch,
+    /// It has fetched a ledger.
+    CloseLast,
+    /// It has no ledger that it may write to or append.
+    Create,
+    /// It has created a ledger.
+    Append,
+    /// It may write, a value or scores.
+    Write,
+    /// Its ledger was fenced by another leader.
+    CloseOwn,
+}
+
 const DONE: u64 = 0;
 const WAS_CLOSED: u64 = 1;
 const BEHIND: u64 = 2;
@@ -94,6 +115,22 @@ pub(crate) fn entry(number: u64) -> Result<Position, Error> {
     }
 }
 
+/// A step is its place in the reference's order of steps.
+pub(crate) fn advice(number: u64) -> Result<Option<Advice>, Error> {
+    match number {
+        1 => Ok(Some(Advice::Become)),
+        2 => Ok(Some(Advice::Abdicate)),
+        3 => Ok(Some(Advice::Fetch)),
+        4 => Ok(Some(Advice::CloseLast)),
+        6 => Ok(Some(Advice::Create)),
+        7 => Ok(Some(Advice::Append)),
+        8 => Ok(Some(Advice::Write)),
+        9 => Ok(Some(Advice::CloseOwn)),
+        15 => Ok(None),
+        _ => Err(error(number)),
+    }
+}
+
 #[cfg(test)]
 mod tests {
     use super::*;
@@ -111,6 +148,21 @@ mod tests {
         assert_eq!(entry(0x1_0FFF_0FFF), at(4095, 4095));
     }
 
+    // Name is never advised, and 5 is no step's place.
+    #[test]
+    fn advised_steps() {
+        use Advice::*;
+        let before = [None, Some(Become), Some(Abdicate), Some(Fetch), Some(CloseLast)];
+        let after = [None, Some(Create), Some(Append), Some(Write), Some(CloseOwn)];
+        for (number, step) in (0..).zip(before.into_iter().chain(after)) {
+            assert_eq!(advice(number), step.map(Some).ok_or(Error::UnknownAnswer(number)));
+        }
+        assert_eq!(advice(15), Ok(None));
+        for number in [10, 14, 16, 255, 256, 1 << 32] {
+            assert_eq!(advice(number), Err(Error::UnknownAnswer(number)));
+        }
+    }
+
     #[test]
     fn refusals() {
         for (number, &refusal) in (257..).zip(Refusal::ALL) {
@@ -119,6 +171,7 @@ mod tests {
             assert_eq!(close_last(number), Err(refused));
             assert_eq!(progress(number), Err(refused));
             assert_eq!(entry(number), Err(refused));
+            assert_eq!(advice(number), Err(refused));
         }
     }
 

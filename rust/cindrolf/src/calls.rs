@@ -16,7 +16,7 @@
 //! null and valid for their lengths. A `&mut` slice is lent to nobody else meanwhile, so what the library changes
 //! overlaps nothing. Each block's comment adds what is special to it.
 
-use crate::{CloseLast, Error, LedgerNumber, Position, Progress, ReadingPlace, answer, raw};
+use crate::{Advice, CloseLast, Error, LedgerNumber, Position, Progress, ReadingPlace, answer, raw};
 
 // An operation that changes both buffers, by the numbers that it takes and the answers that it can give.
 macro_rules! operation {
@@ -104,6 +104,13 @@ pub fn write_scores(state: &mut [u64], entries: &mut [u64], client: u64, scores:
 pub fn well_formed(state: &[u64], entries: &[u64]) -> bool {
     // SAFETY: nothing is changed. The library answers a C bool, 0 or 1.
     unsafe { raw::cindrolf_well_formed(state.as_ptr(), state.len(), entries.as_ptr(), entries.len()) }
+}
+
+/// The step that a client should take next, if there is one.
+pub fn advise(state: &[u64], entries: &[u64], client: u64) -> Result<Option<Advice>, Error> {
+    // SAFETY: nothing is changed, and the client is any number.
+    let number = unsafe { raw::cindrolf_advise(state.as_ptr(), state.len(), entries.as_ptr(), entries.len(), client) };
+    answer::advice(number)
 }
 
 /// The part of the entry buffer with the entries of a listed ledger, as stored words.

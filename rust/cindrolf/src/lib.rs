@@ -37,6 +37,37 @@
 //! # Ok::<(), Error>(())
 //! ```
 //!
+//! A controller with a read to store takes the steps that it is advised, and persists the log after each:
+//!
+//! ```
+//! use cindrolf::{Advice, EntryNumber, Error, Log, Position, Refusal};
+//!
+//! /// Where the read is stored; none where another client is named.
+//! fn store(log: &mut Log, client: u64, value: u64) -> Result<Option<Position>, Error> {
+//!     while let Some(step) = log.advise(client)? {
+//!         match step {
+//!             Advice::Become => log.become_leader(client)?,
+//!             Advice::Abdicate => log.abdicate(client)?,
+//!             Advice::Fetch => log.fetch(client)?,
+//!             Advice::CloseLast => drop(log.close_last(client)?), // a behind shows in the next advice
+//!             Advice::Create => log.create(client)?,
+//!             Advice::Append => drop(log.append(client)?),
+//!             Advice::CloseOwn => drop(log.close_own(client)?),
+//!             Advice::Write => return log.write(client, value).map(Some),
+//!         }
+//!     }
+//!     Ok(None)
+//! }
+//!
+//! let mut log = Log::fresh(2)?;
+//! assert_eq!(store(&mut log, 0, 201)?.map(|at| at.number), Some(EntryNumber(0)));
+//! log.name(1)?;
+//! assert_eq!(store(&mut log, 1, 202)?.map(|at| at.number), Some(EntryNumber(1)));
+//! assert_eq!(store(&mut log, 0, 203)?, None);
+//! assert_eq!(store(&mut log, 1, 1 << 52), Err(Error::Refused(Refusal::ValueTooWide)));
+//! # Ok::<(), Error>(())
+//! ```
+//!
 //! An entry from quality scores, in quarters of a Phred unit: its value is the sum of their error probabilities, each in
 //! whole parts of 10^-12.
 //!
@@ -63,7 +94,7 @@ pub mod raw;
 mod version;
 mod view;
 
-pub use answer::{CloseLast, EntryNumber, LedgerNumber, LedgerPlace, Position, Progress, ReadingPlace};
+pub use answer::{Advice, CloseLast, EntryNumber, LedgerNumber, LedgerPlace, Position, Progress, ReadingPlace};
 pub use error::{Error, Refusal};
 pub use log::{Log, LogMut, LogRef};
 pub use version::{VERSION, check_version};

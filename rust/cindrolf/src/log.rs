@@ -1,8 +1,8 @@
 //! A log that owns its buffers, and logs that borrow them.
 
 use crate::{
-    CloseLast, ENTRY_WORDS, Error, LedgerNumber, Position, Progress, ReadingPlace, Refusal, STATE_WORDS, View, calls,
-    check_version,
+    Advice, CloseLast, ENTRY_WORDS, Error, LedgerNumber, Position, Progress, ReadingPlace, Refusal, STATE_WORDS, View,
+    calls, check_version,
 };
 
 /// A log that owns its two buffers.
@@ -169,6 +169,11 @@ impl<'a> LogRef<'a> {
         Ok(View::new(self.state, self.entries))
     }
 
+    /// The step that a client should take next, if there is one.
+    pub fn advise(&self, client: u64) -> Result<Option<Advice>, Error> {
+        calls::advise(self.state, self.entries, client)
+    }
+
     /// The entries of a listed ledger: the very part of the entry buffer, as stored words.
     pub fn read_ledger(&self, ledger: LedgerNumber) -> Result<&'a [u64], Error> {
         calls::read_ledger(self.state, self.entries, ledger)
@@ -275,6 +280,12 @@ macro_rules! operations {
             /// Whether the buffers have the right lengths and hold a well-formed log.
             pub fn well_formed(&self) -> bool {
                 self.as_ref().well_formed()
+            }
+
+            /// The step that a client should take next, if there is one. A named leader that takes these steps, while no
+            /// other client does anything, has a write accepted at the ninth or earlier.
+            pub fn advise(&self, client: u64) -> Result<Option<Advice>, Error> {
+                self.as_ref().advise(client)
             }
 
             /// The entries of a listed ledger: the very part of the entry buffer, as stored words.

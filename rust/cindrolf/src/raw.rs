@@ -61,6 +61,13 @@ unsafe extern "C" {
         scores_len: usize,
     ) -> u64;
     pub fn cindrolf_well_formed(state: *const u64, state_len: usize, entries: *const u64, entries_len: usize) -> bool;
+    pub fn cindrolf_advise(
+        state: *const u64,
+        state_len: usize,
+        entries: *const u64,
+        entries_len: usize,
+        client: u64,
+    ) -> u64;
     pub fn cindrolf_read_ledger(
         state: *const u64,
         state_len: usize,

@@ -43,7 +43,9 @@ fn calls(random: &mut Random, buffers: &Buffers) -> Vec<Call> {
         }
     }
     let reading = reading(buffers);
+    calls.push(Call::Advise(head.leader));
     for _ in 0..2 {
+        calls.push(Call::Advise(any_client(random, head.client_count)));
         calls.push(Call::ReadLedger(any_ledger(random, &head, buffers)));
         calls.push(Call::Fresh(any_count(random)));
         calls.push(any_window(random, &reading));

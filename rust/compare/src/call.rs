@@ -43,6 +43,8 @@ pub enum Call {
     Step(u64, Step),
     /// The check of both buffers.
     WellFormed,
+    /// The adviser, with a client.
+    Advise(u64),
     /// Read ledger, with a ledger number.
     ReadLedger(u64),
     /// Read chain.
@@ -66,10 +68,12 @@ impl fmt::Display for Call {
 /// What a call gave back.
 #[derive(Clone, Debug, PartialEq, Eq)]
 pub enum Outcome {
-    /// The answer of fresh or a step.
+    /// The answer of fresh or a step, or a refusal of the adviser.
     Answer(Answer),
     /// The check's verdict.
     WellFormed(bool),
+    /// The step that is advised, a write with a value of 0, if there is one.
+    Advice(Option<Step>),
     /// Read ledger's answer, and its part of the entry buffer: 0 and 0 wherever it is empty.
     Part {
         /// Done or a refusal.
@@ -107,13 +111,14 @@ impl Outcome {
             | Outcome::Part { answer, .. }
             | Outcome::Count { answer, .. }
             | Outcome::Window { answer, .. } => Some(*answer),
-            Outcome::WellFormed(_) | Outcome::NotHandedOn(_) => None,
+            Outcome::WellFormed(_) | Outcome::Advice(_) | Outcome::NotHandedOn(_) => None,
         }
     }
 
     /// Whether the call may have changed a buffer.
     pub fn changes(&self) -> bool {
-        let reads = matches!(self, Outcome::WellFormed(_) | Outcome::Part { .. } | Outcome::Window { .. });
+        use Outcome::{Advice, Part, WellFormed, Window};
+        let reads = matches!(self, WellFormed(_) | Advice(_) | Part { .. } | Window { .. });
         !reads && !matches!(self.answer(), Some(Answer::Refused(_)))
     }
 }
@@ -128,6 +133,8 @@ pub fn model(call: Call, lent: &mut Lent) -> Outcome {
         Call::Fresh(count) => Outcome::Answer(words::fresh(state, entries, count)),
         Call::Step(client, step) => Outcome::Answer(words::step(state, entries, client, step)),
         Call::WellFormed => Outcome::WellFormed(words::well_formed(state, entries)),
+        Call::Advise(client) => words::advise(state, entries, client)
+            .map_or_else(|number| Outcome::Answer(Answer::Refused(number)), Outcome::Advice),
         Call::ReadLedger(ledger) => match words::read_ledger(state, entries, ledger) {
             Ok(part) => model_part(part),
             Err(number) => Outcome::Part { answer: Answer::Refused(number), start: 0, count: 0 },
@@ -162,9 +169,28 @@ pub fn library(call: Call, lent: &mut Lent) -> Outcome {
         Call::Fresh(count) => Outcome::Answer(calls::fresh(state, entries, count).map_or_else(failed, done)),
         Call::Step(client, step) => Outcome::Answer(library_step(state, entries, client, step)),
         Call::WellFormed => Outcome::WellFormed(calls::well_formed(state, entries)),
+        Call::Advise(client) => library_advice(state, entries, client),
         Call::ReadLedger(ledger) => library_ledger(lent, ledger),
         Call::ReadChain => library_chain(lent),
         Call::FirstWindow(length, limit) => library_window(lent, length, limit),
+    }
+}
+
+fn library_advice(state: &[u64], entries: &[u64], client: u64) -> Outcome {
+    use cindrolf::{Advice, calls};
+    let step = |advice| match advice {
+        Advice::Become => Step::Become,
+        Advice::Abdicate => Step::Abdicate,
+        Advice::Fetch => Step::Fetch,
+        Advice::CloseLast => Step::CloseLast,
+        Advice::Create => Step::Create,
+        Advice::Append => Step::Append,
+        Advice::Write => Step::Write(0),
+        Advice::CloseOwn => Step::CloseOwn,
+    };
+    match calls::advise(state, entries, client) {
+        Ok(advice) => Outcome::Advice(advice.map(step)),
+        Err(error) => Outcome::Answer(failed(error)),
     }
 }
 

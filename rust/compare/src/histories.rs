@@ -4,7 +4,7 @@ use crate::buffers::any_window;
 use crate::call::{Buffers, Call, Outcome, Subject};
 use crate::shrink::{shorten, with_fewer_scores};
 use crate::sides::Sides;
-use model::histories::Profile;
+use model::histories::{Profile, any_client};
 use model::layout::{ENTRY_WORDS, STATE_WORDS};
 use model::random::Random;
 use model::source::{Source, Taken};
@@ -42,6 +42,7 @@ pub fn compare(subject: Subject, sides: &mut Sides, random: &mut Random) -> Resu
             1 => Call::ReadLedger(random.below(run.source.md_next_lid + 1)),
             2 => Call::ReadChain,
             3 => any_window(random, &run.source.chain()),
+            4 | 5 => Call::Advise(any_client(random, history.client_count)),
             _ => {
                 let (client, step) = profile.next(random, &run.source);
                 Call::Step(client, step)
@@ -70,6 +71,12 @@ impl<'a> Run<'a> {
         let outcome = self.sides.call(call).map_err(|difference| difference.to_string())?;
         let agrees = match (call, &outcome) {
             (Call::Step(client, step), Outcome::Answer(answer)) => self.source_agrees(client, step, *answer),
+            (Call::Advise(client), Outcome::Advice(step)) => {
+                client < self.source.c_state.len() as u64 && *step == self.source.advise(client)
+            }
+            (Call::Advise(client), outcome) => {
+                client >= self.source.c_state.len() as u64 && outcome.answer() == Some(Answer::Refused(3))
+            }
             (Call::ReadLedger(ledger), Outcome::Part { answer: Answer::Done, start, count }) => {
                 let part = *start as usize..(start + count) as usize;
                 self.source.ledger(ledger).is_some_and(|words| words == self.sides.buffers().entries[part])

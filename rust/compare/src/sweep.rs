@@ -14,8 +14,9 @@ pub fn undamaged(subject: Subject, sides: &mut Sides, log: &Named) -> Result<(),
     let steps = (0..17).flat_map(|client| Step::ALL.map(|step| Call::Step(client, step)));
     let windows = [(0, 0), (1, 0), (1, u64::MAX), (256, 0), (256, 1 << 40), (257, 0), (u64::MAX, 0)];
     let windows = windows.map(|(length, limit)| Call::FirstWindow(length, limit));
+    let advice = (0..17).map(Call::Advise);
     let readers = [Call::WellFormed, Call::ReadChain, Call::ReadLedger(1), Call::ReadLedger(255)];
-    let others = readers.into_iter().chain(windows).chain([Call::Fresh(4)]);
+    let others = readers.into_iter().chain(windows).chain(advice).chain([Call::Fresh(4)]);
     for call in steps.chain(others) {
         sides.set(&buffers);
         match sides.call(call) {

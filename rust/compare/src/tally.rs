@@ -5,7 +5,7 @@ use model::{Answer, Step};
 use std::fmt;
 
 /// The operations, in the reference's order, each with the answers that it can give: 1 to 20 are refusals. None gives 14.
-const OPERATIONS: [(&str, &[usize]); 15] = [
+const OPERATIONS: [(&str, &[usize]); 16] = [
     ("fresh", &[DONE, 1, 17]),
     ("name", &[DONE, 1, 2, 3, 4]),
     ("become", &[DONE, 1, 2, 3, 5, 6]),
@@ -18,6 +18,7 @@ const OPERATIONS: [(&str, &[usize]); 15] = [
     ("write scores", &[ENTRY, 1, 2, 3, 7, 8, 9, 12, 13, 18, 19]),
     ("close own", &[DONE, BEHIND, 1, 2, 3, 7, 8, 9]),
     ("well formed", &[YES, NO]),
+    ("advise", &[BECOME, ABDICATE, FETCH, CLOSE_LAST, CREATE, APPEND, WRITE, CLOSE_OWN, NONE, 1, 2, 3]),
     ("read ledger", &[DONE, 1, 2, 15]),
     ("read chain", &[DONE, 1, 2, 16]),
     ("first window", &[FOUND, NONE, 1, 2, 20]),
@@ -31,14 +32,47 @@ const YES: usize = 25;
 const NO: usize = 26;
 const FOUND: usize = 27;
 const NONE: usize = 28;
-const NAMES: [&str; 8] = ["done", "was closed", "behind", "entry", "yes", "no", "found", "none"];
+const BECOME: usize = 29;
+const ABDICATE: usize = 30;
+const FETCH: usize = 31;
+const CLOSE_LAST: usize = 32;
+const CREATE: usize = 33;
+const APPEND: usize = 34;
+const WRITE: usize = 35;
+const CLOSE_OWN: usize = 36;
+const NAMES: [&str; 16] = [
+    "done",
+    "was closed",
+    "behind",
+    "entry",
+    "yes",
+    "no",
+    "found",
+    "none",
+    "become",
+    "abdicate",
+    "fetch",
+    "close last",
+    "create",
+    "append",
+    "write",
+    "close own",
+];
 
 /// The counts of one operation, by answer.
 type Counts = [u64; DONE + NAMES.len()];
 
+const NO_COUNTS: Counts = [0; DONE + NAMES.len()];
+
 /// The counts, by operation and answer.
-#[derive(Clone, Debug, Default)]
+#[derive(Clone, Debug)]
 pub struct Tally([Counts; OPERATIONS.len()]);
+
+impl Default for Tally {
+    fn default() -> Self {
+        Tally([NO_COUNTS; OPERATIONS.len()])
+    }
+}
 
 impl Tally {
     /// Counts a compared call.
@@ -78,9 +112,10 @@ fn operation(call: Call) -> usize {
             Step::CloseOwn => 10,
         },
         Call::WellFormed => 11,
-        Call::ReadLedger(_) => 12,
-        Call::ReadChain => 13,
-        Call::FirstWindow(..) => 14,
+        Call::Advise(_) => 12,
+        Call::ReadLedger(_) => 13,
+        Call::ReadChain => 14,
+        Call::FirstWindow(..) => 15,
     }
 }
 
@@ -93,7 +128,22 @@ fn column(outcome: &Outcome) -> usize {
         (_, Some(Answer::Behind)) => BEHIND,
         (_, Some(Answer::Entry { .. })) => ENTRY,
         (Outcome::WellFormed(true), None) => YES,
+        (Outcome::Advice(step), None) => step.map_or(NONE, advised),
         (_, None) => NO,
+    }
+}
+
+fn advised(step: Step) -> usize {
+    match step {
+        Step::Become => BECOME,
+        Step::Abdicate => ABDICATE,
+        Step::Fetch => FETCH,
+        Step::CloseLast => CLOSE_LAST,
+        Step::Create => CREATE,
+        Step::Append => APPEND,
+        Step::Write(_) | Step::WriteScores(_) => WRITE,
+        Step::CloseOwn => CLOSE_OWN,
+        Step::Name => unreachable!("name is never advised"),
     }
 }
 
@@ -107,7 +157,7 @@ fn answer_name(answer: usize) -> String {
 /// A line for each operation, then a line for the whole.
 impl fmt::Display for Tally {
     fn fmt(&self, f: &mut fmt::Formatter<'_>) -> fmt::Result {
-        let mut whole = Counts::default();
+        let mut whole = NO_COUNTS;
         for (counts, (name, _)) in self.0.iter().zip(OPERATIONS) {
             line(f, name, counts)?;
             whole.iter_mut().zip(counts).for_each(|(sum, count)| *sum += count);

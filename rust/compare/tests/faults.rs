@@ -199,6 +199,39 @@ fn leaves_out_the_last_window(call: Call, lent: &mut Lent) -> Outcome {
     outcome
 }
 
+// Every client is advised as if it were named.
+fn advises_by_stage_alone(call: Call, lent: &mut Lent) -> Outcome {
+    let outcome = call::model(call, lent);
+    match (call, &outcome) {
+        (Call::Advise(client), Outcome::Advice(_)) => {
+            let mut state = lent.state.to_vec();
+            state[0] = Head { leader: client, ..Head::load(state[0]).0 }.word();
+            call::model(call, &mut Lent { state: &mut state, entries: lent.entries, output: lent.output })
+        }
+        _ => outcome,
+    }
+}
+
+// A client that isn't named is told to abdicate where it doesn't lead, and nothing where it does.
+fn swaps_abdicate_and_none(call: Call, lent: &mut Lent) -> Outcome {
+    match call::model(call, lent) {
+        Outcome::Advice(None) => Outcome::Advice(Some(Step::Abdicate)),
+        Outcome::Advice(Some(Step::Abdicate)) => Outcome::Advice(None),
+        outcome => outcome,
+    }
+}
+
+// The fence of the last listed ledger is looked at, and not that of the client's own.
+fn looks_at_another_fence(call: Call, lent: &mut Lent) -> Outcome {
+    let outcome = call::model(call, lent);
+    if let Outcome::Advice(Some(Step::Write(_) | Step::CloseOwn)) = outcome {
+        let last = lent.state[place_index(Head::load(lent.state[0]).0.list_length)] >> 56;
+        let fenced = Ledger::load(lent.state[ledger_index(last)]).0.fenced == 1;
+        return Outcome::Advice(Some(if fenced { Step::CloseOwn } else { Step::Write(0) }));
+    }
+    outcome
+}
+
 #[test]
 fn finds_a_wrong_window() {
     let report = first(histories::compare, at_the_limit_is_over, 2000).expect("the fault is found");
@@ -207,6 +240,16 @@ fn finds_a_wrong_window() {
         let report = first(compare, leaves_out_the_last_window, 2000).expect("the fault is found");
         assert!(report.contains("the model Window { answer: Done, found: 1, start: "), "{report}");
     }
+}
+
+#[test]
+fn finds_wrong_advice() {
+    let report = first(histories::compare, advises_by_stage_alone, 100).expect("the fault is found");
+    assert!(report.contains("gives Advice(Some(Become)), the model Advice(None)"), "{report}");
+    let report = first(histories::compare, swaps_abdicate_and_none, 100).expect("the fault is found");
+    assert!(report.contains("gives Advice(Some(Abdicate)), the model Advice(None)"), "{report}");
+    let report = first(histories::compare, looks_at_another_fence, 300).expect("the fault is found");
+    assert!(report.contains("gives Advice(Some(Write(0))), the model Advice(Some(CloseOwn))"), "{report}");
 }
 
 #[test]
@@ -266,10 +309,10 @@ fn finds_a_wrong_word() {
 #[test]
 fn finds_a_gap() {
     let report = first(histories::compare, fence_by_place, 200).expect("the fault is found");
-    // Two create, the second appends first. Each ledger from there to the one that is read takes six steps more, with a
-    // handover.
+    // Two create, the second appends first; both may have to be named. Each ledger from there to the one that is read takes
+    // six steps more, with a handover.
     let ledger: usize = report.split(['(', ')']).nth(1).and_then(|number| number.parse().ok()).expect("a reading");
-    assert!(history(&report).len() <= 9 + 6 * (ledger - 2), "{report}");
+    assert!(history(&report).len() <= 10 + 6 * (ledger - 2), "{report}");
 }
 
 #[test]

@@ -1,0 +1,79 @@
+/* Two controllers that do what the adviser says. It prints the steps of each, and what became of its read. */
+#include "cindrolf.h"
+
+#include <inttypes.h>
+#include <stdio.h>
+
+#define LOG state, CINDROLF_STATE_WORDS, entries, CINDROLF_ENTRY_WORDS
+
+static uint64_t state[CINDROLF_STATE_WORDS];
+static uint64_t entries[CINDROLF_ENTRY_WORDS];
+static uint64_t output[CINDROLF_ENTRY_WORDS];
+
+/* Where the example has no disk to write both buffers to, it prints the step. */
+static void persist(uint64_t step) {
+    static const char *const names[] = {"name", "become", "abdicate", "fetch", "close last", "", "create", "append", "write", "close own"};
+    printf("%s, ", names[step]);
+}
+
+static uint64_t take_step(uint64_t step, uint64_t client, uint64_t value) {
+    switch (step) {
+    case CINDROLF_STEP_BECOME: return cindrolf_become(LOG, client);
+    case CINDROLF_STEP_ABDICATE: return cindrolf_abdicate(LOG, client);
+    case CINDROLF_STEP_FETCH: return cindrolf_fetch(LOG, client);
+    case CINDROLF_STEP_CLOSE_LAST: return cindrolf_close_last(LOG, client);
+    case CINDROLF_STEP_CREATE: return cindrolf_create(LOG, client);
+    case CINDROLF_STEP_APPEND: return cindrolf_append(LOG, client);
+    case CINDROLF_STEP_WRITE: return cindrolf_write(LOG, client, value);
+    default: return cindrolf_close_own(LOG, client);
+    }
+}
+
+/* Takes step after step until the read is stored: the answer of its write. Or a refusal; or CINDROLF_NO_STEP, where another is named. */
+static uint64_t store(uint64_t client, uint64_t value) {
+    for (;;) {
+        uint64_t step = cindrolf_advise(LOG, client);
+        if (step >= CINDROLF_NO_STEP)
+            return step;
+        uint64_t answer = take_step(step, client, value);
+        if (answer > CINDROLF_REFUSED && answer < CINDROLF_ENTRY)
+            return answer;
+        persist(step);
+        if (answer >= CINDROLF_ENTRY)
+            return answer;
+    }
+}
+
+static void report(uint64_t client, uint64_t value) {
+    printf("client %" PRIu64 ": ", client);
+    uint64_t answer = store(client, value);
+    if (answer >= CINDROLF_ENTRY)
+        printf("stored as entry %" PRIu64 "\n", cindrolf_answer_entry(answer));
+    else if (answer == CINDROLF_NO_STEP)
+        printf("another client is named\n");
+    else
+        printf("refusal %" PRIu64 "\n", answer - CINDROLF_REFUSED);
+}
+
+int main(void) {
+    if (cindrolf_version() != CINDROLF_VERSION || cindrolf_fresh(LOG, 2) != CINDROLF_DONE)
+        return 1;
+    report(0, 201);
+    /* Client 1 takes over and comes as far as fetch; then client 0, which has closed its ledger, appends another. */
+    cindrolf_close_own(LOG, 0);
+    cindrolf_name(LOG, 1);
+    cindrolf_become(LOG, 1);
+    cindrolf_fetch(LOG, 1);
+    cindrolf_create(LOG, 0);
+    cindrolf_append(LOG, 0);
+    /* So client 1 is behind at its append, and has to begin again: nine steps, which is the most. */
+    report(1, 202);
+    report(0, 203);
+    report(1, UINT64_C(1) << 52);
+    struct cindrolf_chain_count chain = cindrolf_read_chain(LOG, output, CINDROLF_ENTRY_WORDS);
+    printf("chain");
+    for (uint64_t i = 0; i < chain.count; i++)
+        printf(" %" PRIu64 ":%" PRIu64, cindrolf_word_client(output[i]), cindrolf_word_value(output[i]));
+    printf("\n");
+    return 0;
+}
