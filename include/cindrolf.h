@@ -25,7 +25,7 @@ extern "C" {
 #endif
 
 /* The number of this interface. It goes up with every change that a caller has to follow. */
-#define CINDROLF_VERSION UINT64_C(2)
+#define CINDROLF_VERSION UINT64_C(3)
 
 /* The number of the interface that the archive has. Compare it with CINDROLF_VERSION before the first call. */
 uint64_t cindrolf_version(void);
@@ -41,8 +41,11 @@ uint64_t cindrolf_version(void);
 /* The most words of a window. */
 #define CINDROLF_LONGEST_WINDOW 256
 
-/* The stage of a client in a well-formed log, 0 to 5: waiting, fetching, closing the last ledger, creating, appending, writing. */
+/* The stage of a client in a well-formed log, 0 to 6: waiting, fetching, closing the last ledger, creating, appending, writing, finishing. */
 #define CINDROLF_STAGE(state, client) ((state)[1 + (client)] >> 60 & 7)
+
+/* Whether a created ledger of a well-formed log, 1 to 255, is recovering: fenced, and not yet closed. A leader has to finish it. */
+#define CINDROLF_RECOVERING(state, ledger) ((state)[16 + (ledger)] >> 53 & 1)
 
 /* What an operation answers. Refusal n is CINDROLF_REFUSED + n. An accepted write is CINDROLF_ENTRY + e * 65536 + p, for entry number e at
  * place p of its ledger. */
@@ -80,12 +83,13 @@ static inline uint64_t cindrolf_answer_place(uint64_t answer) { return answer & 
 #define CINDROLF_REFUSAL_WINDOW_LENGTH UINT64_C(20)     /* the window's length is 0 or above 256 */
 
 /* What cindrolf_advise answers where it does not refuse: the number of a step, or that there is none to take. The steps are numbered in
- * this order; 5 is no step's number. Name is never advised. */
+ * this order. Name is never advised. */
 #define CINDROLF_STEP_NAME UINT64_C(0)
 #define CINDROLF_STEP_BECOME UINT64_C(1)
 #define CINDROLF_STEP_ABDICATE UINT64_C(2)
 #define CINDROLF_STEP_FETCH UINT64_C(3)
 #define CINDROLF_STEP_CLOSE_LAST UINT64_C(4)
+#define CINDROLF_STEP_FINISH UINT64_C(5)
 #define CINDROLF_STEP_CREATE UINT64_C(6)
 #define CINDROLF_STEP_APPEND UINT64_C(7)
 #define CINDROLF_STEP_WRITE UINT64_C(8)
@@ -120,9 +124,14 @@ uint64_t cindrolf_abdicate(uint64_t *state, size_t state_length, uint64_t *entri
  * Done, or refusal 7 or 8. */
 uint64_t cindrolf_fetch(uint64_t *state, size_t state_length, uint64_t *entries, size_t entries_length, uint64_t client);
 
-/* The leader closes and fences the ledger that it fetched: done. If that was closed when fetched, it stays as it is: was closed. After
- * either the leader has to create one. If it was closed since: behind, and the leader has to fetch again. Or refusal 7, 8 or 9. */
+/* The leader fences the ledger that it fetched, which is recovering from now on: done. If it was recovering when fetched, it stays as it is:
+ * done. After either the leader has to finish it. If it was closed when fetched: was closed, and the leader has to create one. If it was
+ * fenced or closed since: behind, and the leader has to fetch again. Or refusal 7, 8 or 9. */
 uint64_t cindrolf_close_last(uint64_t *state, size_t state_length, uint64_t *entries, size_t entries_length, uint64_t client);
+
+/* The leader closes the recovering ledger, whoever fenced it, and has to create one next: done. If another closed it: behind, and the leader
+ * has to fetch again. Or refusal 7, 8 or 9. */
+uint64_t cindrolf_finish(uint64_t *state, size_t state_length, uint64_t *entries, size_t entries_length, uint64_t client);
 
 /* The leader creates an open ledger with the next number, and has to append it next: done, or refusal 7, 8 or 10. */
 uint64_t cindrolf_create(uint64_t *state, size_t state_length, uint64_t *entries, size_t entries_length, uint64_t client);
@@ -148,7 +157,7 @@ uint64_t cindrolf_close_own(uint64_t *state, size_t state_length, uint64_t *entr
 
 /* The step that a client should take next, as numbered above; CINDROLF_NO_STEP where another client is named and this one does not lead; or
  * refusal 1, 2 or 3. It changes nothing. On a log that began with cindrolf_fresh, with two ledger numbers and one entry left, a named leader
- * that takes these steps has a write accepted at the ninth or earlier, as long as no other client steps, nobody is named, and what it
+ * that takes these steps has a write accepted at the tenth or earlier, as long as no other client steps, nobody is named, and what it
  * writes is neither too wide nor refused for its scores. Limits are not looked at: create and write are advised where refusal 10 or 13 waits. */
 uint64_t cindrolf_advise(const uint64_t *state, size_t state_length, const uint64_t *entries, size_t entries_length, uint64_t client);
 

@@ -34,6 +34,7 @@ static const struct {
     {"abdicate", cindrolf_abdicate},
     {"fetch", cindrolf_fetch},
     {"close last", cindrolf_close_last},
+    {"finish", cindrolf_finish},
     {"create", cindrolf_create},
     {"append", cindrolf_append},
     {"close own", cindrolf_close_own},
@@ -123,7 +124,8 @@ static void check_advice(void) {
         {cindrolf_name, 1, 2, 1},
         {cindrolf_become, 1, 2, 3},
         {cindrolf_fetch, 1, 2, 4},
-        {cindrolf_close_last, 1, 2, 6},
+        {cindrolf_close_last, 1, 2, 5},
+        {cindrolf_finish, 1, 2, 6},
         {cindrolf_name, 0, 9, 2},
         {cindrolf_close_own, 0, 1, 2},
         {cindrolf_abdicate, 1, 1, 15},
@@ -192,6 +194,28 @@ static void check_windows(void) {
     expect("its start", given.start, 0);
 }
 
+/* Client 1 fences the ledger of client 0, and then finishes it. */
+static void check_recovery(void) {
+    const struct {
+        operation *call;
+        uint64_t client;
+    } before[] = {{cindrolf_fresh, 2}, {cindrolf_become, 0}, {cindrolf_fetch, 0},  {cindrolf_create, 0},
+                  {cindrolf_append, 0}, {cindrolf_name, 1},  {cindrolf_become, 1}, {cindrolf_fetch, 1}};
+    for (size_t i = 0; i < sizeof before / sizeof before[0]; i++)
+        expect("a step before it", before[i].call(state, CINDROLF_STATE_WORDS, entries, CINDROLF_ENTRY_WORDS, before[i].client), CINDROLF_DONE);
+    expect("recovering while open", CINDROLF_RECOVERING(state, 1), 0);
+    expect("close last", cindrolf_close_last(state, CINDROLF_STATE_WORDS, entries, CINDROLF_ENTRY_WORDS, 1), CINDROLF_DONE);
+    expect("recovering", CINDROLF_RECOVERING(state, 1), 1);
+    expect("the ledger's word", state[17], UINT64_C(0x00E0000000000000));
+    expect("the closer's stage", CINDROLF_STAGE(state, 1), 6);
+    expect("finish", cindrolf_finish(state, CINDROLF_STATE_WORDS, entries, CINDROLF_ENTRY_WORDS, 1), CINDROLF_DONE);
+    expect("recovering once finished", CINDROLF_RECOVERING(state, 1), 0);
+    expect("the ledger's word", state[17], UINT64_C(0x0140000000000000));
+    expect("the closer's stage", CINDROLF_STAGE(state, 1), 3);
+    expect("finish again", cindrolf_finish(state, CINDROLF_STATE_WORDS, entries, CINDROLF_ENTRY_WORDS, 1),
+           CINDROLF_REFUSED + CINDROLF_REFUSAL_OTHER_STAGE);
+}
+
 int main(void) {
     expect("version", cindrolf_version(), CINDROLF_VERSION);
 
@@ -223,5 +247,6 @@ int main(void) {
     check_windows();
     check_places();
     check_advice();
+    check_recovery();
     return wrong;
 }

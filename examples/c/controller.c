@@ -12,7 +12,7 @@ static uint64_t output[CINDROLF_ENTRY_WORDS];
 
 /* Where the example has no disk to write both buffers to, it prints the step. */
 static void persist(uint64_t step) {
-    static const char *const names[] = {"name", "become", "abdicate", "fetch", "close last", "", "create", "append", "write", "close own"};
+    static const char *const names[] = {"name", "become", "abdicate", "fetch", "close last", "finish", "create", "append", "write", "close own"};
     printf("%s, ", names[step]);
 }
 
@@ -22,6 +22,7 @@ static uint64_t take_step(uint64_t step, uint64_t client, uint64_t value) {
     case CINDROLF_STEP_ABDICATE: return cindrolf_abdicate(LOG, client);
     case CINDROLF_STEP_FETCH: return cindrolf_fetch(LOG, client);
     case CINDROLF_STEP_CLOSE_LAST: return cindrolf_close_last(LOG, client);
+    case CINDROLF_STEP_FINISH: return cindrolf_finish(LOG, client);
     case CINDROLF_STEP_CREATE: return cindrolf_create(LOG, client);
     case CINDROLF_STEP_APPEND: return cindrolf_append(LOG, client);
     case CINDROLF_STEP_WRITE: return cindrolf_write(LOG, client, value);
@@ -66,7 +67,7 @@ int main(void) {
     cindrolf_fetch(LOG, 1);
     cindrolf_create(LOG, 0);
     cindrolf_append(LOG, 0);
-    /* So client 1 is behind at its append, and has to begin again: nine steps, which is the most. */
+    /* So client 1 is behind at its append, and has to begin again: ten steps, which is the most. */
     report(1, 202);
     report(0, 203);
     report(1, UINT64_C(1) << 52);

@@ -33,6 +33,7 @@ static const struct line session[] = {
     {'B', 1, 0, CINDROLF_DONE},
     {'F', 1, 0, CINDROLF_DONE},
     {'L', 1, 0, CINDROLF_DONE},
+    {'K', 1, 0, CINDROLF_DONE},
     {'W', 0, 8, CINDROLF_REFUSED + CINDROLF_REFUSAL_LEDGER_FENCED},
     {'C', 1, 0, CINDROLF_DONE},
     {'P', 1, 0, CINDROLF_DONE},
@@ -54,6 +55,7 @@ static uint64_t take_step(const struct line *l) {
     case 'A': return cindrolf_abdicate(STATE, ENTRIES, l->client);
     case 'F': return cindrolf_fetch(STATE, ENTRIES, l->client);
     case 'L': return cindrolf_close_last(STATE, ENTRIES, l->client);
+    case 'K': return cindrolf_finish(STATE, ENTRIES, l->client);
     case 'C': return cindrolf_create(STATE, ENTRIES, l->client);
     case 'P': return cindrolf_append(STATE, ENTRIES, l->client);
     case 'W': return cindrolf_write(STATE, ENTRIES, l->client, l->value);

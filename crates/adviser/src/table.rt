@@ -21,6 +21,7 @@ fn stage_advice(stage: Stage, fenced: bool) -> Advice
                 Advice::Write
             }
         }
+        Stage::Finishing => Advice::Finish,
     }
 }
 

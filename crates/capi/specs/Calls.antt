@@ -20,7 +20,7 @@ use Rattle.readers.specs.Locate.{partStart, Locates}
 
 -- The number of this interface, the same as CINDROLF_VERSION in include/cindrolf.h.
 abbrev pub interfaceVersion : ℕ
-interfaceVersion = 2
+interfaceVersion = 3
 
 -- An operation on both buffers: its answer, and every word afterwards.
 pub record Call (a : Answer) (after : Buffers) (r : ℕ) (state entries : List ℕ) : Type 0 where

@@ -35,6 +35,7 @@ pub fn advice_number(a: Advice) -> u64
         Advice::Abdicate => 2,
         Advice::Fetch => 3,
         Advice::CloseLast => 4,
+        Advice::Finish => 5,
         Advice::Create => 6,
         Advice::Append => 7,
         Advice::Write => 8,

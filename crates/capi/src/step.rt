@@ -49,6 +49,13 @@ pub extern "C" fn cindrolf_close_last(state: &mut [u64], entries: &mut [u64], cl
 }
 
 #[no_mangle]
+pub extern "C" fn cindrolf_finish(state: &mut [u64], entries: &mut [u64], client: u64) -> u64
+    ensures { λ r. ⌜ StepCall (by client kinds.finish) (buffers (now (state .entry)) (now (entries .entry))) r (now (state .exit)) (now (entries .exit)) ⌝ }
+{
+    take(state, entries, Step::Finish(client))
+}
+
+#[no_mangle]
 pub extern "C" fn cindrolf_create(state: &mut [u64], entries: &mut [u64], client: u64) -> u64
     ensures { λ r. ⌜ StepCall (by client kinds.create) (buffers (now (state .entry)) (now (entries .entry))) r (now (state .exit)) (now (entries .exit)) ⌝ }
 {

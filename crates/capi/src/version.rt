@@ -2,7 +2,7 @@
 ghost use mathlib.Core.Path.{_≡_};
 ghost use Rattle.capi.specs.Calls.{interfaceVersion};
 
-const VERSION: u64 = 2;
+const VERSION: u64 = 3;
 
 #[no_mangle]
 pub extern "C" fn cindrolf_version() -> u64

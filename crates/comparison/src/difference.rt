@@ -4,23 +4,23 @@ use model::variables::at;
 use model::variables::put;
 
 // The step of the history that is taken, from 1.
-pub const STEP: u64 = 18783;
+pub const STEP: u64 = 18815;
 
 // The histories and steps so far, and how many words of the buffers were compared.
-pub const HISTORIES: u64 = 18785;
+pub const HISTORIES: u64 = 18817;
 
-pub const STEPS: u64 = 18786;
+pub const STEPS: u64 = 18818;
 
-pub const WORDS: u64 = 18787;
+pub const WORDS: u64 = 18819;
 
 // What differs first, where, and in which step of which history.
-pub const DIFFERENCE: u64 = 18792;
+pub const DIFFERENCE: u64 = 18824;
 
-pub const PLACE: u64 = 18793;
+pub const PLACE: u64 = 18825;
 
-pub const AT_HISTORY: u64 = 18794;
+pub const AT_HISTORY: u64 = 18826;
 
-pub const AT_STEP: u64 = 18795;
+pub const AT_STEP: u64 = 18827;
 
 // What can differ.
 pub const NOTHING: u64 = 0;

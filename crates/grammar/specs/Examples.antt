@@ -4,7 +4,7 @@ use mathlib.Core.List.{[], _∷_}
 use Rattle.text.specs.Bytes.{bytes}
 use Rattle.text.specs.Decimal.{isDigit, allDigits, starts, value, numeralOf}
 use Rattle.text.specs.Find.{indexOf}
-use Rattle.dispatch.specs.declared.Step.the-variants.{Write, CloseOwn}
+use Rattle.dispatch.specs.declared.Step.the-variants.{Write, Finish, CloseOwn}
 use Rattle.grammar.specs.declared.Request.the-variants.{Take, BadLine}
 use Rattle.grammar.specs.Grammar.{withClient, letterStep, parseWrite, parseLine}
 
@@ -39,6 +39,10 @@ value-after-name = refl
 largest-client : parseLine (bytes "O 255") ≡ Take (CloseOwn 255)
 unfolding parseLine withClient letterStep numeralOf starts allDigits isDigit value
 largest-client = refl
+
+finish : parseLine (bytes "K 1") ≡ Take (Finish 1)
+unfolding parseLine withClient letterStep numeralOf starts allDigits isDigit value
+finish = refl
 
 client-too-large : parseLine (bytes "N 256") ≡ BadLine
 unfolding parseLine withClient letterStep numeralOf starts allDigits isDigit value

@@ -9,7 +9,7 @@ use Rattle.text.specs.declared.decimal.Numeral.{Numeral}
 use Rattle.text.specs.declared.decimal.Numeral.the-variants.{Number, NotNumeral}
 use Rattle.text.specs.Decimal.{numeralOf}
 use Rattle.text.specs.Find.{indexOf}
-use Rattle.dispatch.specs.declared.Step.the-variants.{Name, Become, Abdicate, Fetch, CloseLast, Create, Append, Write, CloseOwn}
+use Rattle.dispatch.specs.declared.Step.the-variants.{Name, Become, Abdicate, Fetch, CloseLast, Finish, Create, Append, Write, CloseOwn}
 use Rattle.grammar.specs.declared.Request.{Request}
 use Rattle.grammar.specs.declared.Request.the-variants.{Take, BadLine}
 
@@ -27,9 +27,10 @@ letterStep letter c =
     cond (is letter "A") (Take (Abdicate c)) (
     cond (is letter "F") (Take (Fetch c)) (
     cond (is letter "L") (Take (CloseLast c)) (
+    cond (is letter "K") (Take (Finish c)) (
     cond (is letter "C") (Take (Create c)) (
     cond (is letter "P") (Take (Append c)) (
-    cond (is letter "O") (Take (CloseOwn c)) BadLine)))))))
+    cond (is letter "O") (Take (CloseOwn c)) BadLine))))))))
 
 abbrev pub clientStep : ℕ → Numeral → Request
 clientStep letter (Number c) = withClient c (letterStep letter c)

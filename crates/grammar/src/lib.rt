@@ -34,6 +34,7 @@ fn letter_step(letter: u8, client: u64) -> Request
         b'A' => Request::Take(Step::Abdicate(client)),
         b'F' => Request::Take(Step::Fetch(client)),
         b'L' => Request::Take(Step::CloseLast(client)),
+        b'K' => Request::Take(Step::Finish(client)),
         b'C' => Request::Take(Step::Create(client)),
         b'P' => Request::Take(Step::Append(client)),
         b'O' => Request::Take(Step::CloseOwn(client)),

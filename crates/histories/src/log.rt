@@ -14,6 +14,7 @@ fn step_of(asked: Asked) -> Step {
         model::answer::ABDICATE => Step::Abdicate(client),
         model::answer::FETCH => Step::Fetch(client),
         model::answer::CLOSE_LAST => Step::CloseLast(client),
+        model::answer::FINISH => Step::Finish(client),
         model::answer::CREATE => Step::Create(client),
         model::answer::APPEND => Step::Append(client),
         model::answer::WRITE => Step::Write(client, asked.value),

@@ -14,6 +14,7 @@ fn take_on_log(state: &mut State, entries: &mut Entries, asked: Asked) -> Answer
         model::answer::ABDICATE => steps::abdicate::abdicate(state, entries, client),
         model::answer::FETCH => steps::fetch::fetch(state, entries, client),
         model::answer::CLOSE_LAST => steps::close_last::close_last(state, entries, client),
+        model::answer::FINISH => steps::finish::finish(state, entries, client),
         model::answer::CREATE => steps::create::create(state, entries, client),
         model::answer::APPEND => steps::append::append(state, entries, client),
         model::answer::WRITE => steps::write::write(state, entries, client, asked.value),

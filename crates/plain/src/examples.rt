@@ -23,7 +23,7 @@ ghost use lib.ListN.{length};
 pub fn session(model: &mut Model, state: &mut State, entries: &mut Entries) {
     begin(model, state, entries, 3);
     let mut n: u64 = 0;
-    while n < 14 {
+    while n < 15 {
         n += 1;
         let answer = take(model, state, entries, crate::script::step(SESSION, n));
         crate::say::say_numbered_line(n, answer);
@@ -31,7 +31,7 @@ pub fn session(model: &mut Model, state: &mut State, entries: &mut Entries) {
 }
 
 // The steps of a script after one number, up to another. It answers what the last of them answered.
-fn play(
+pub fn play(
     model: &mut Model,
     state: &mut State,
     entries: &mut Entries,
@@ -48,10 +48,10 @@ fn play(
     answer
 }
 
-// The same session up to its line 13, and then a write to the ledger that is fenced.
+// The same session up to its line 14, and then a write to the ledger that is fenced.
 pub fn fence(model: &mut Model, state: &mut State, entries: &mut Entries) {
     begin(model, state, entries, 3);
-    play(model, state, entries, SESSION, 0, 13);
+    play(model, state, entries, SESSION, 0, 14);
     let answer = take(model, state, entries, write(0, 8));
     say_line(b"write after the fence", answer);
 }
@@ -68,7 +68,7 @@ pub fn wide_value(model: &mut Model, state: &mut State, entries: &mut Entries) {
     play(model, state, entries, SESSION, 1, 4);
     let listed = take(model, state, entries, wide);
     say_line(b"wide value", listed);
-    play(model, state, entries, SESSION, 4, 13);
+    play(model, state, entries, SESSION, 4, 14);
     let fenced = take(model, state, entries, wide);
     say_line(b"wide value, fenced", fenced);
 }

@@ -2,12 +2,13 @@
 mod beside;
 mod examples;
 mod readings;
+mod recovery;
 mod say;
 mod scores;
 mod script;
 
 fn main() {
-    let mut model = [0u64; 18796];
+    let mut model = [0u64; 18828];
     let mut state = [0u64; 527];
     let mut entries = [0u64; 4096];
     examples::session(&mut model, &mut state, &mut entries);
@@ -17,6 +18,8 @@ fn main() {
     examples::empty_ledger(&mut model, &mut state, &mut entries);
     readings::chain_line(&state, &entries);
     examples::empty_fenced_ledger(&mut model, &mut state, &mut entries);
+    recovery::recovery(&mut model, &mut state, &mut entries);
+    recovery::impossible_memory(&mut model, &mut state, &mut entries);
     examples::on_a_fresh_log(&mut model, &mut state, &mut entries);
     examples::short_state(&mut model, &mut state, &mut entries);
     examples::client_counts(&mut model, &mut state, &mut entries);

@@ -8,6 +8,7 @@ use model::answer::CLOSE_LAST;
 use model::answer::CLOSE_OWN;
 use model::answer::CREATE;
 use model::answer::FETCH;
+use model::answer::FINISH;
 use model::answer::NAME;
 
 pub const SESSION: u64 = 0;
@@ -28,10 +29,11 @@ fn session_step(line: u64) -> Asked {
         7 => asked(BECOME, 1),
         8 => asked(FETCH, 1),
         9 => asked(CLOSE_LAST, 1),
-        10 => write(0, 8),
-        11 => asked(CREATE, 1),
-        12 => asked(APPEND, 1),
-        13 => write(1, 9),
+        10 => asked(FINISH, 1),
+        11 => write(0, 8),
+        12 => asked(CREATE, 1),
+        13 => asked(APPEND, 1),
+        14 => write(1, 9),
         _ => asked(CLOSE_OWN, 0),
     }
 }

@@ -20,7 +20,7 @@ unended : output (bytes "3") ≡ bytes "bad start\n"
 unfolding output opening startedBy lines longer started clientCount
 unended = refl
 
-example-total : output (bytes "3\nB 0\nF 0\nC 0\nP 0\nW 0 7\nN 1\nB 1\nF 1\nL 1\nW 0 8\nC 1\nP 1\nW 1 9\nO 0\n")
+example-total : output (bytes "3\nB 0\nF 0\nC 0\nP 0\nW 0 7\nN 1\nB 1\nF 1\nL 1\nK 1\nW 0 8\nC 1\nP 1\nW 1 9\nO 0\n")
     ≡ bytes "ledger 1 entries 1 sum 0.000000000007\nledger 2 entries 1 sum 0.000000000009\ntotal 0.000000000016\nrounded 0.000\n"
 unfolding output opening startedBy lines longer started clientCount taken requestOf indexOf parseLine parseWrite letterStep withClient numeralOf starts allDigits isDigit value decimal digits sum sumLine ledgerLine roundedLine endLines ledgerLines sumAlong logText padded fixed readLedgerPart freshBuffers afterSteps afterStep stepEffect everyFrom packHead packClient packLedger packPlace packEntry unpackHead unpackClient unpackLedger unpackPlace unpackEntry put place ofLedger newestFrom head clientsIn ledgersIn listIn entriesIn
 example-total = refl

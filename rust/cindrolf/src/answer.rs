@@ -31,11 +31,21 @@ pub struct LedgerNumber(pub u64);
 #[derive(Clone, Copy, Debug, PartialEq, Eq, Hash)]
 #[must_use = "a client that is behind has to fetch again"]
 pub enum CloseLast {
-    /// The ledger is closed and fenced. The client creates one next.
+    /// The ledger is fenced, or was when it was fetched. The client finishes it next.
     Done,
     /// The ledger was closed already when it was fetched. The client creates one next.
     WasClosed,
-    /// Another client closed the ledger since it was fetched. The client fetches again.
+    /// The ledger was fenced or closed since it was fetched. The client fetches again.
+    Behind,
+}
+
+/// How finishing a fenced ledger went.
+#[derive(Clone, Copy, Debug, PartialEq, Eq, Hash)]
+#[must_use = "a client that is behind has to fetch again"]
+pub enum Finish {
+    /// The ledger is closed. The client creates one next.
+    Done,
+    /// Another client finished it. The client fetches again.
     Behind,
 }
 
@@ -60,6 +70,8 @@ pub enum Advice {
     Fetch,
     /// It has fetched a ledger.
     CloseLast,
+    /// Its last ledger is fenced.
+    Finish,
     /// It has no ledger that it may write to or append.
     Create,
     /// It has created a ledger.
@@ -98,6 +110,14 @@ pub(crate) fn close_last(number: u64) -> Result<CloseLast, Error> {
     }
 }
 
+pub(crate) fn finish(number: u64) -> Result<Finish, Error> {
+    match number {
+        DONE => Ok(Finish::Done),
+        BEHIND => Ok(Finish::Behind),
+        _ => Err(error(number)),
+    }
+}
+
 pub(crate) fn progress(number: u64) -> Result<Progress, Error> {
     match number {
         DONE => Ok(Progress::Done),
@@ -122,6 +142,7 @@ pub(crate) fn advice(number: u64) -> Result<Option<Advice>, Error> {
         2 => Ok(Some(Advice::Abdicate)),
         3 => Ok(Some(Advice::Fetch)),
         4 => Ok(Some(Advice::CloseLast)),
+        5 => Ok(Some(Advice::Finish)),
         6 => Ok(Some(Advice::Create)),
         7 => Ok(Some(Advice::Append)),
         8 => Ok(Some(Advice::Write)),
@@ -140,6 +161,7 @@ mod tests {
         assert_eq!(done(0), Ok(()));
         assert_eq!(close_last(1), Ok(CloseLast::WasClosed));
         assert_eq!(close_last(2), Ok(CloseLast::Behind));
+        assert_eq!(finish(2), Ok(Finish::Behind));
         assert_eq!(progress(2), Ok(Progress::Behind));
         let at = |number, place| Ok(Position { number: EntryNumber(number), place: LedgerPlace(place) });
         assert_eq!(entry(0x1_0000_0000), at(0, 0));
@@ -148,17 +170,16 @@ mod tests {
         assert_eq!(entry(0x1_0FFF_0FFF), at(4095, 4095));
     }
 
-    // Name is never advised, and 5 is no step's place.
+    // Name is never advised.
     #[test]
     fn advised_steps() {
         use Advice::*;
-        let before = [None, Some(Become), Some(Abdicate), Some(Fetch), Some(CloseLast)];
-        let after = [None, Some(Create), Some(Append), Some(Write), Some(CloseOwn)];
-        for (number, step) in (0..).zip(before.into_iter().chain(after)) {
-            assert_eq!(advice(number), step.map(Some).ok_or(Error::UnknownAnswer(number)));
+        let steps = [Become, Abdicate, Fetch, CloseLast, Finish, Create, Append, Write, CloseOwn];
+        for (number, step) in (1..).zip(steps) {
+            assert_eq!(advice(number), Ok(Some(step)));
         }
         assert_eq!(advice(15), Ok(None));
-        for number in [10, 14, 16, 255, 256, 1 << 32] {
+        for number in [0, 10, 14, 16, 255, 256, 1 << 32] {
             assert_eq!(advice(number), Err(Error::UnknownAnswer(number)));
         }
     }
@@ -169,6 +190,7 @@ mod tests {
             let refused = Error::Refused(refusal);
             assert_eq!(done(number), Err(refused));
             assert_eq!(close_last(number), Err(refused));
+            assert_eq!(finish(number), Err(refused));
             assert_eq!(progress(number), Err(refused));
             assert_eq!(entry(number), Err(refused));
             assert_eq!(advice(number), Err(refused));
@@ -182,10 +204,12 @@ mod tests {
             let unknown = Error::UnknownAnswer(number);
             assert_eq!(done(number), Err(unknown));
             assert_eq!(close_last(number), Err(unknown));
+            assert_eq!(finish(number), Err(unknown));
             assert_eq!(progress(number), Err(unknown));
             assert_eq!(entry(number), Err(unknown));
         }
         assert_eq!(done(2), Err(Error::UnknownAnswer(2)));
+        assert_eq!(finish(1), Err(Error::UnknownAnswer(1)));
         assert_eq!(progress(1), Err(Error::UnknownAnswer(1)));
         assert_eq!(entry(0), Err(Error::UnknownAnswer(0)));
         assert_eq!(close_last(u64::MAX), Err(Error::UnknownAnswer(u64::MAX)));

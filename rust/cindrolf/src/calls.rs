@@ -16,7 +16,7 @@
 //! null and valid for their lengths. A `&mut` slice is lent to nobody else meanwhile, so what the library changes
 //! overlaps nothing. Each block's comment adds what is special to it.
 
-use crate::{Advice, CloseLast, Error, LedgerNumber, Position, Progress, ReadingPlace, answer, raw};
+use crate::{Advice, CloseLast, Error, Finish, LedgerNumber, Position, Progress, ReadingPlace, answer, raw};
 
 // An operation that changes both buffers, by the numbers that it takes and the answers that it can give.
 macro_rules! operation {
@@ -58,8 +58,13 @@ operation! {
 }
 
 operation! {
-    /// The client closes and fences the ledger that it fetched.
+    /// The client fences the ledger that it fetched.
     close_last(client), cindrolf_close_last, answer::close_last => CloseLast
+}
+
+operation! {
+    /// The client closes the ledger that is fenced.
+    finish(client), cindrolf_finish, answer::finish => Finish
 }
 
 operation! {

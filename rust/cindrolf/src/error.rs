@@ -176,7 +176,7 @@ mod tests {
         assert_eq!(Refusal::LogFull.to_string(), "the log is full");
         assert_eq!(Error::from(Refusal::LogFull).to_string(), "the log is full (refusal 13)");
         let other = Error::OtherVersion(1).to_string();
-        assert_eq!(other, "the library has version 1, and the crate is written for version 2");
+        assert_eq!(other, "the library has version 1, and the crate is written for version 3");
         assert!(Error::UnknownAnswer(300).to_string().starts_with("the library answered 300, "));
     }
 }

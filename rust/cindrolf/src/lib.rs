@@ -10,7 +10,8 @@
 //! Two controllers, of which the second takes over the lead:
 //!
 //! ```
-//! use cindrolf::{CloseLast, EntryNumber, Error, LedgerPlace, Log, Position, Progress, Refusal, client_of, value_of};
+//! use cindrolf::{CloseLast, EntryNumber, Error, Finish, LedgerPlace, Log, Position, Progress, Refusal};
+//! use cindrolf::{client_of, value_of};
 //!
 //! let mut log = Log::fresh(3)?;
 //! log.become_leader(0)?;
@@ -25,6 +26,7 @@
 //! assert_eq!(log.close_last(1)?, CloseLast::Done);
 //! // From now on the old leader is turned away.
 //! assert_eq!(log.write(0, 8), Err(Error::Refused(Refusal::LedgerFenced)));
+//! assert_eq!(log.finish(1)?, Finish::Done);
 //! log.create(1)?;
 //! assert_eq!(log.append(1)?, Progress::Done);
 //! assert_eq!(log.write(1, 9)?, Position { number: EntryNumber(1), place: LedgerPlace(0) });
@@ -50,6 +52,7 @@
 //!             Advice::Abdicate => log.abdicate(client)?,
 //!             Advice::Fetch => log.fetch(client)?,
 //!             Advice::CloseLast => drop(log.close_last(client)?), // a behind shows in the next advice
+//!             Advice::Finish => drop(log.finish(client)?),
 //!             Advice::Create => log.create(client)?,
 //!             Advice::Append => drop(log.append(client)?),
 //!             Advice::CloseOwn => drop(log.close_own(client)?),
@@ -94,7 +97,7 @@ pub mod raw;
 mod version;
 mod view;
 
-pub use answer::{Advice, CloseLast, EntryNumber, LedgerNumber, LedgerPlace, Position, Progress, ReadingPlace};
+pub use answer::{Advice, CloseLast, EntryNumber, Finish, LedgerNumber, LedgerPlace, Position, Progress, ReadingPlace};
 pub use error::{Error, Refusal};
 pub use log::{Log, LogMut, LogRef};
 pub use version::{VERSION, check_version};

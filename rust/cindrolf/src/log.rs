@@ -1,8 +1,8 @@
 //! A log that owns its buffers, and logs that borrow them.
 
 use crate::{
-    Advice, CloseLast, ENTRY_WORDS, Error, LedgerNumber, Position, Progress, ReadingPlace, Refusal, STATE_WORDS, View,
-    calls, check_version,
+    Advice, CloseLast, ENTRY_WORDS, Error, Finish, LedgerNumber, Position, Progress, ReadingPlace, Refusal,
+    STATE_WORDS, View, calls, check_version,
 };
 
 /// A log that owns its two buffers.
@@ -232,10 +232,16 @@ macro_rules! operations {
                 calls::fetch(&mut self.state, &mut self.entries, client)
             }
 
-            /// The client closes and fences the ledger that it fetched. It creates one next, or fetches again when it
-            /// is behind.
+            /// The client fences the ledger that it fetched, so that nobody writes to it. It finishes it next, creates
+            /// one when it was closed already, or fetches again when it is behind.
             pub fn close_last(&mut self, client: u64) -> Result<CloseLast, Error> {
                 calls::close_last(&mut self.state, &mut self.entries, client)
+            }
+
+            /// The client closes the ledger that it, or another before it, has fenced. It creates one next, or fetches
+            /// again when it is behind.
+            pub fn finish(&mut self, client: u64) -> Result<Finish, Error> {
+                calls::finish(&mut self.state, &mut self.entries, client)
             }
 
             /// The client creates a ledger. It appends it next.
@@ -283,7 +289,7 @@ macro_rules! operations {
             }
 
             /// The step that a client should take next, if there is one. A named leader that takes these steps, while no
-            /// other client does anything, has a write accepted at the ninth or earlier.
+            /// other client does anything, has a write accepted at the tenth or earlier.
             pub fn advise(&self, client: u64) -> Result<Option<Advice>, Error> {
                 self.as_ref().advise(client)
             }

@@ -43,6 +43,7 @@ operations! {
     cindrolf_abdicate(client);
     cindrolf_fetch(client);
     cindrolf_close_last(client);
+    cindrolf_finish(client);
     cindrolf_create(client);
     cindrolf_append(client);
     cindrolf_write(client, value);

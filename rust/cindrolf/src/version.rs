@@ -3,7 +3,7 @@
 use crate::{Error, raw};
 
 /// The version of the interface that this crate is written for: `CINDROLF_VERSION` of include/cindrolf.h.
-pub const VERSION: u64 = 2;
+pub const VERSION: u64 = 3;
 
 /// The archive's version.
 fn archive_version() -> u64 {

@@ -1,7 +1,7 @@
 //! The reference's examples through the crate, on the proved library.
 
 use cindrolf::{
-    CloseLast, ENTRY_WORDS, EntryNumber, Error, LedgerNumber, LedgerPlace, Log, LogMut, Position, Progress,
+    CloseLast, ENTRY_WORDS, EntryNumber, Error, Finish, LedgerNumber, LedgerPlace, Log, LogMut, Position, Progress,
 };
 use cindrolf::{HIGHEST_SCORE, Refusal, SCORES_LIMIT, STATE_WORDS, Stage, calls, ledger_of, value_of};
 
@@ -199,10 +199,47 @@ fn behind_and_was_closed() {
     assert_eq!(log.close_last(1), Ok(CloseLast::Done));
     assert_eq!(log.close_last(2), Ok(CloseLast::Behind));
     assert_eq!(log.close_own(0), Ok(Progress::Behind));
+    assert_eq!(log.finish(1), Ok(Finish::Done));
     log.fetch(2).unwrap();
     assert_eq!(log.close_last(2), Ok(CloseLast::WasClosed));
     log.create(1).unwrap();
     log.create(2).unwrap();
     assert_eq!(log.append(2), Ok(Progress::Done));
     assert_eq!(log.append(1), Ok(Progress::Behind));
+}
+
+// A leader that died between its fence and its close: the ledger is recovering, nobody writes to it, and another leader finishes it.
+#[test]
+fn recovering() {
+    let mut log = writing(3);
+    log.write(0, 1).unwrap();
+    let fence = |log: &mut Log, client| {
+        log.name(client).unwrap();
+        log.become_leader(client).unwrap();
+        log.fetch(client).unwrap();
+        assert_eq!(log.close_last(client), Ok(CloseLast::Done));
+    };
+    fence(&mut log, 1);
+    let ledger = log.view().ledger(LedgerNumber(1)).unwrap();
+    assert_eq!((ledger.open, ledger.version, ledger.fenced, ledger.recovering), (false, 1, true, true));
+    assert_eq!(log.state()[17], 0x00E0000000000000);
+    let client = log.view().client(1).unwrap();
+    let memory = client.ledger.unwrap();
+    assert_eq!((client.stage, memory.open, memory.version, memory.recovering), (Stage::Finishing, false, 1, true));
+    assert_eq!(log.write(0, 2), refused(Refusal::LedgerFenced));
+    assert_eq!(log.create(1), refused(Refusal::OtherStage));
+    assert_eq!(log.finish(0), refused(Refusal::OtherStage));
+    assert_eq!(log.finish(2), refused(Refusal::DoesNotLead));
+
+    let before = log.state()[17];
+    fence(&mut log, 2);
+    assert_eq!(log.state()[17], before);
+    assert_eq!(log.finish(2), Ok(Finish::Done));
+    assert_eq!(log.state()[17], 0x0140000000000000);
+    assert_eq!(log.finish(1), Ok(Finish::Behind));
+    assert_eq!([1, 2].map(|client| log.view().client(client).unwrap().stage), [Stage::Fetching, Stage::Creating]);
+    // What client 2 remembers stays until it creates a ledger.
+    assert!(log.view().client(2).unwrap().ledger.unwrap().recovering);
+    log.create(2).unwrap();
+    assert!(!log.view().client(2).unwrap().ledger.unwrap().recovering);
 }

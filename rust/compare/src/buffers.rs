@@ -88,6 +88,7 @@ fn stage(step: Step) -> u64 {
         Step::Name | Step::Become | Step::Abdicate => 0,
         Step::Fetch => 1,
         Step::CloseLast => 2,
+        Step::Finish => 6,
         Step::Create => 3,
         Step::Append => 4,
         Step::Write(_) | Step::WriteScores(_) | Step::CloseOwn => 5,
@@ -232,8 +233,7 @@ pub fn well_formed(random: &mut Random) -> Buffers {
         *word = any_client_word(random, &head);
     }
     for word in &mut state[17..16 + next_ledger as usize] {
-        let open = random.below(2);
-        *word = Ledger { open, version: 1 - open, fenced: random.below(2) }.word();
+        *word = any_ledger_word(random);
     }
     for word in &mut state[272..272 + head.list_length as usize] {
         *word = Place { ledger: random.between(1, next_ledger - 1) }.word();
@@ -242,8 +242,16 @@ pub fn well_formed(random: &mut Random) -> Buffers {
     Buffers { state, entries, output: vec![] }
 }
 
+/// Open, closed, closed by a finish or recovering; all but the last with a fence or without.
+fn any_ledger_word(random: &mut Random) -> u64 {
+    let fenced = random.below(2);
+    let (open, version, fenced, recovering) =
+        random.pick(&[(1, 0, fenced, 0), (0, 1, fenced, 0), (0, 2, fenced, 0), (0, 1, 1, 1)]);
+    Ledger { open, version, fenced, recovering }.word()
+}
+
 fn any_client_word(random: &mut Random, head: &Head) -> u64 {
-    let stage = random.below(6);
+    let stage = random.below(7);
     let list_version = match random.below(8) {
         0 => NONE,
         1 => random.below(256),
@@ -257,9 +265,13 @@ fn any_client_word(random: &mut Random, head: &Head) -> u64 {
         1 => head.next_ledger - 1,
         _ => random.below(head.next_ledger),
     };
-    let open = if ledger == 0 { 0 } else { random.below(2) };
-    let version = if ledger == 0 { NONE } else { 1 - open };
-    Client { leads: (stage != 0) as u64, stage, list_version, ledger, open, version }.word()
+    let (open, version, recovering) = match ledger {
+        0 => (0, NONE, 0),
+        // What a client at stage 6 remembers is mostly recovering.
+        _ if stage == 6 && random.chance(70) => (0, 1, 1),
+        _ => random.pick(&[(1, 0, 0), (0, 1, 0), (0, 2, 0), (0, 1, 1)]),
+    };
+    Client { leads: (stage != 0) as u64, stage, list_version, ledger, open, version, recovering }.word()
 }
 
 /// Entries whose ledger numbers never fall, in a few runs.

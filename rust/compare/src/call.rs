@@ -183,6 +183,7 @@ fn library_advice(state: &[u64], entries: &[u64], client: u64) -> Outcome {
         Advice::Abdicate => Step::Abdicate,
         Advice::Fetch => Step::Fetch,
         Advice::CloseLast => Step::CloseLast,
+        Advice::Finish => Step::Finish,
         Advice::Create => Step::Create,
         Advice::Append => Step::Append,
         Advice::Write => Step::Write(0),
@@ -257,11 +258,15 @@ fn numbered(number: u64) -> Answer {
 }
 
 fn library_step(state: &mut [u64], entries: &mut [u64], client: u64, step: Step) -> Answer {
-    use cindrolf::{CloseLast, Position, Progress, calls};
+    use cindrolf::{CloseLast, Finish, Position, Progress, calls};
     let close_last = |given| match given {
         CloseLast::Done => Answer::Done,
         CloseLast::WasClosed => Answer::WasClosed,
         CloseLast::Behind => Answer::Behind,
+    };
+    let finish = |given| match given {
+        Finish::Done => Answer::Done,
+        Finish::Behind => Answer::Behind,
     };
     let entry = |at: Position| Answer::Entry { number: at.number.0, place: at.place.0 };
     let progress = |given| match given {
@@ -274,6 +279,7 @@ fn library_step(state: &mut [u64], entries: &mut [u64], client: u64, step: Step)
         Step::Abdicate => calls::abdicate(state, entries, client).map_or_else(failed, done),
         Step::Fetch => calls::fetch(state, entries, client).map_or_else(failed, done),
         Step::CloseLast => calls::close_last(state, entries, client).map_or_else(failed, close_last),
+        Step::Finish => calls::finish(state, entries, client).map_or_else(failed, finish),
         Step::Create => calls::create(state, entries, client).map_or_else(failed, done),
         Step::Append => calls::append(state, entries, client).map_or_else(failed, progress),
         Step::Write(value) => calls::write(state, entries, client, value).map_or_else(failed, entry),

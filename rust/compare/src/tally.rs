@@ -5,20 +5,21 @@ use model::{Answer, Step};
 use std::fmt;
 
 /// The operations, in the reference's order, each with the answers that it can give: 1 to 20 are refusals. None gives 14.
-const OPERATIONS: [(&str, &[usize]); 16] = [
+const OPERATIONS: [(&str, &[usize]); 17] = [
     ("fresh", &[DONE, 1, 17]),
     ("name", &[DONE, 1, 2, 3, 4]),
     ("become", &[DONE, 1, 2, 3, 5, 6]),
     ("abdicate", &[DONE, 1, 2, 3, 4, 7]),
     ("fetch", &[DONE, 1, 2, 3, 7, 8]),
     ("close last", &[DONE, WAS_CLOSED, BEHIND, 1, 2, 3, 7, 8, 9]),
+    ("finish", &[DONE, BEHIND, 1, 2, 3, 7, 8, 9]),
     ("create", &[DONE, 1, 2, 3, 7, 8, 10]),
     ("append", &[DONE, BEHIND, 1, 2, 3, 7, 8, 9]),
     ("write", &[ENTRY, 1, 2, 3, 7, 8, 9, 11, 12, 13]),
     ("write scores", &[ENTRY, 1, 2, 3, 7, 8, 9, 12, 13, 18, 19]),
     ("close own", &[DONE, BEHIND, 1, 2, 3, 7, 8, 9]),
     ("well formed", &[YES, NO]),
-    ("advise", &[BECOME, ABDICATE, FETCH, CLOSE_LAST, CREATE, APPEND, WRITE, CLOSE_OWN, NONE, 1, 2, 3]),
+    ("advise", &[BECOME, ABDICATE, FETCH, CLOSE_LAST, FINISH, CREATE, APPEND, WRITE, CLOSE_OWN, NONE, 1, 2, 3]),
     ("read ledger", &[DONE, 1, 2, 15]),
     ("read chain", &[DONE, 1, 2, 16]),
     ("first window", &[FOUND, NONE, 1, 2, 20]),
@@ -36,11 +37,12 @@ const BECOME: usize = 29;
 const ABDICATE: usize = 30;
 const FETCH: usize = 31;
 const CLOSE_LAST: usize = 32;
-const CREATE: usize = 33;
-const APPEND: usize = 34;
-const WRITE: usize = 35;
-const CLOSE_OWN: usize = 36;
-const NAMES: [&str; 16] = [
+const FINISH: usize = 33;
+const CREATE: usize = 34;
+const APPEND: usize = 35;
+const WRITE: usize = 36;
+const CLOSE_OWN: usize = 37;
+const NAMES: [&str; 17] = [
     "done",
     "was closed",
     "behind",
@@ -53,6 +55,7 @@ const NAMES: [&str; 16] = [
     "abdicate",
     "fetch",
     "close last",
+    "finish",
     "create",
     "append",
     "write",
@@ -105,17 +108,18 @@ fn operation(call: Call) -> usize {
             Step::Abdicate => 3,
             Step::Fetch => 4,
             Step::CloseLast => 5,
-            Step::Create => 6,
-            Step::Append => 7,
-            Step::Write(_) => 8,
-            Step::WriteScores(_) => 9,
-            Step::CloseOwn => 10,
+            Step::Finish => 6,
+            Step::Create => 7,
+            Step::Append => 8,
+            Step::Write(_) => 9,
+            Step::WriteScores(_) => 10,
+            Step::CloseOwn => 11,
         },
-        Call::WellFormed => 11,
-        Call::Advise(_) => 12,
-        Call::ReadLedger(_) => 13,
-        Call::ReadChain => 14,
-        Call::FirstWindow(..) => 15,
+        Call::WellFormed => 12,
+        Call::Advise(_) => 13,
+        Call::ReadLedger(_) => 14,
+        Call::ReadChain => 15,
+        Call::FirstWindow(..) => 16,
     }
 }
 
@@ -139,6 +143,7 @@ fn advised(step: Step) -> usize {
         Step::Abdicate => ABDICATE,
         Step::Fetch => FETCH,
         Step::CloseLast => CLOSE_LAST,
+        Step::Finish => FINISH,
         Step::Create => CREATE,
         Step::Append => APPEND,
         Step::Write(_) | Step::WriteScores(_) => WRITE,

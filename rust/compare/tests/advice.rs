@@ -5,17 +5,18 @@ use model::Step;
 use model::histories::Profile;
 use model::layout::{Client, Entry, Head, Ledger, NONE, client_index, ledger_index};
 use model::random::Random;
-use model::source::{Source, Status};
+use model::source::{Metadata, Source, Status};
 use std::collections::HashSet;
 
 /// Two clients, of which client 1 is named, and both are at this stage and remember ledger 1, which is fenced or not.
 fn both_at(stage: u64, fenced: u64) -> (Vec<u64>, Vec<u64>) {
     let (mut state, entries) = (vec![0; 527], vec![0; 4096]);
     state[0] = Head { entry_count: 0, next_ledger: 2, list_length: 0, leader: 1, client_count: 2 }.word();
-    let client = Client { leads: (stage != 0) as u64, stage, list_version: 0, ledger: 1, open: 1, version: 0 };
+    let client =
+        Client { leads: (stage != 0) as u64, stage, list_version: 0, ledger: 1, open: 1, version: 0, recovering: 0 };
     state[client_index(0)] = client.word();
     state[client_index(1)] = client.word();
-    state[ledger_index(1)] = Ledger { open: 1, version: 0, fenced }.word();
+    state[ledger_index(1)] = Ledger { open: 1, version: 0, fenced, recovering: 0 }.word();
     (state, entries)
 }
 
@@ -30,12 +31,14 @@ fn every_stage_and_both_clients() {
         (3, 0, Create, Some(Abdicate)),
         (4, 0, Append, Some(Abdicate)),
         (5, 0, Write, Some(Abdicate)),
+        (6, 0, Finish, Some(Abdicate)),
         (0, 1, Become, None),
         (1, 1, Fetch, Some(Abdicate)),
         (2, 1, CloseLast, Some(Abdicate)),
         (3, 1, Create, Some(Abdicate)),
         (4, 1, Append, Some(Abdicate)),
         (5, 1, CloseOwn, Some(Abdicate)),
+        (6, 1, Finish, Some(Abdicate)),
     ];
     for (stage, fenced, named, other) in rows {
         let (state, entries) = both_at(stage, fenced);
@@ -64,7 +67,7 @@ fn refusals() {
 fn what_it_does_not_look_at() {
     let (mut state, mut entries) = both_at(3, 0);
     state[0] = Head { next_ledger: 256, ..Head::load(state[0]).0 }.word();
-    state[ledger_index(1)..=ledger_index(255)].fill(Ledger { open: 1, version: 0, fenced: 1 }.word());
+    state[ledger_index(1)..=ledger_index(255)].fill(Ledger { open: 1, version: 0, fenced: 1, recovering: 0 }.word());
     assert_eq!(LogRef::new(&state, &entries).advise(1), Ok(Some(Advice::Create)));
     let mut log = Log::from_words(&state, &entries).unwrap();
     assert_eq!(log.create(1), Err(Error::Refused(Refusal::NoLedgerNumber)));
@@ -77,7 +80,7 @@ fn what_it_does_not_look_at() {
     assert_eq!(log.write(1, 7), Err(Error::Refused(Refusal::LogFull)));
 
     (state, entries) = both_at(5, 1);
-    let memory = Client { leads: 1, stage: 5, list_version: 0, ledger: 0, open: 0, version: NONE };
+    let memory = Client { leads: 1, stage: 5, list_version: 0, ledger: 0, open: 0, version: NONE, recovering: 0 };
     state[client_index(1)] = memory.word();
     assert_eq!(LogRef::new(&state, &entries).advise(1), Ok(Some(Advice::Write)));
 }
@@ -90,6 +93,7 @@ fn follow(log: &mut Log, client: u64) -> bool {
         Advice::Abdicate => panic!("a named client is told to abdicate"),
         Advice::Fetch => log.fetch(client).unwrap(),
         Advice::CloseLast => drop(log.close_last(client).unwrap()),
+        Advice::Finish => drop(log.finish(client).unwrap()),
         Advice::Create => log.create(client).unwrap(),
         Advice::Append => drop(log.append(client).unwrap()),
         Advice::Write => drop(log.write(client, (1 << 52) - 1).unwrap()),
@@ -108,26 +112,33 @@ fn steps_to_a_write(source: &Source) -> usize {
 /// How many they are by the reference's table.
 fn by_the_table(source: &Source) -> usize {
     let client = &source.c_state[source.md_leader as usize];
-    let empty = usize::from(source.md_llist.is_empty());
-    let stored = source.md_ledgers.get(&client.ledger.id);
-    let fenced = source.b_ledgers.get(&client.ledger.id).is_some_and(|ledger| ledger.fenced);
+    let closed = |ledger: Metadata| !ledger.open && !ledger.recovering;
+    let last = source.md_llist.last().map(|id| source.md_ledgers[id]);
+    let fetching = last.map_or(4, |last| if closed(last) { 5 } else { 6 });
+    let (ledger, stored) = (client.ledger, source.md_ledgers.get(&client.ledger.id));
+    let same = stored.is_some_and(|stored| stored.version == ledger.version);
+    let fenced = source.b_ledgers.get(&ledger.id).is_some_and(|ledger| ledger.fenced);
     match (client.status, client.llist_version < source.md_llist_version) {
-        (Status::Waiting, _) => 6 - empty,
-        (Status::GetMdForClosing, _) => 5 - empty,
-        (Status::CloseLastLedger, _) if client.ledger.open && stored.is_some_and(|ledger| !ledger.open) => 6,
-        (Status::CloseLastLedger, true) if !client.ledger.open => 9,
-        (Status::CloseLastLedger, _) => 4,
-        (Status::PendingCreateLedger, true) => 8,
+        (Status::Waiting, _) => 1 + fetching,
+        (Status::GetMdForClosing, _) => fetching,
+        (Status::CloseLastLedger, false) if closed(ledger) => 4,
+        (Status::CloseLastLedger, true) if closed(ledger) => 4 + fetching,
+        (Status::CloseLastLedger, _) if same => 5,
+        (Status::CloseLastLedger, _) if ledger.recovering => 2 + fetching,
+        (Status::CloseLastLedger, _) => 1 + fetching,
+        (Status::FinishLastLedger, _) if same => 4,
+        (Status::FinishLastLedger, _) => 1 + fetching,
         (Status::PendingCreateLedger, false) => 3,
-        (Status::PendingAppendLedger, true) => 7,
+        (Status::PendingCreateLedger, true) => 3 + fetching,
         (Status::PendingAppendLedger, false) => 2,
-        (Status::HasOpenLedger, _) if fenced => 7,
+        (Status::PendingAppendLedger, true) => 2 + fetching,
+        (Status::HasOpenLedger, _) if fenced => 2 + fetching,
         (Status::HasOpenLedger, _) => 1,
     }
 }
 
 #[test]
-fn a_named_leader_writes_at_the_ninth_step_or_earlier() {
+fn a_named_leader_writes_at_the_tenth_step_or_earlier() {
     let mut random = Random::new(11);
     let mut counts = [0; 21];
     for round in 0..10_000 {
@@ -143,7 +154,7 @@ fn a_named_leader_writes_at_the_ninth_step_or_earlier() {
         counts[steps] += 1;
     }
     let greatest = counts.iter().rposition(|&count| count > 0);
-    assert_eq!(greatest, Some(9), "{counts:?}");
+    assert_eq!(greatest, Some(10), "{counts:?}");
 }
 
 /// Every log that two clients come to in so many steps and in no fewer.
@@ -166,7 +177,7 @@ fn exactly_after(steps: usize) -> Vec<Source> {
 
 // Client 1 fetches a ledger that its owner has closed, and then the owner appends another.
 #[test]
-fn nine_steps_after_ten_and_after_no_fewer() {
+fn ten_steps_after_ten_and_after_no_fewer() {
     use Step::*;
     let leads = [(0, Become), (0, Fetch), (0, Create), (0, Append), (0, CloseOwn)];
     let overtaken = [(1, Name), (1, Become), (1, Fetch), (0, Create), (0, Append)];
@@ -174,13 +185,13 @@ fn nine_steps_after_ten_and_after_no_fewer() {
     for (client, step) in leads.into_iter().chain(overtaken) {
         source.step(client, step);
     }
-    let mut nine = vec![];
+    let mut ten = vec![];
     for log in (0..=10).flat_map(exactly_after) {
         let steps = steps_to_a_write(&log);
         assert_eq!(steps, by_the_table(&log), "{log:?}");
-        if steps == 9 {
-            nine.push(log);
+        if steps == 10 {
+            ten.push(log);
         }
     }
-    assert_eq!(nine, [source]);
+    assert_eq!(ten, [source]);
 }

@@ -133,6 +133,33 @@ fn keeps_an_empty_ledger_open(call: Call, lent: &mut Lent) -> Outcome {
     call::model(call, lent)
 }
 
+// What is created after a finish is remembered with the recovering flag of the ledger before. No answer shows it.
+fn keeps_recovering(call: Call, lent: &mut Lent) -> Outcome {
+    let remembered = match call {
+        Call::Step(client @ 0..16, Step::Create) => lent.state.get(client_index(client)).copied().unwrap_or(0),
+        _ => 0,
+    };
+    let outcome = call::model(call, lent);
+    if let (Call::Step(client, _), Outcome::Answer(Answer::Done)) = (call, &outcome) {
+        let recovering = Client::load(remembered).0.recovering;
+        let word = &mut lent.state[client_index(client)];
+        *word = Client { recovering: Client::load(*word).0.recovering | recovering, ..Client::load(*word).0 }.word();
+    }
+    outcome
+}
+
+// A finish of a ledger that is stored as closed, with the version remembered.
+fn finishes_a_closed_ledger(call: Call, lent: &mut Lent) -> Outcome {
+    let outcome = call::model(call, lent);
+    if let (Call::Step(client, Step::Finish), Outcome::Answer(Answer::Refused(9))) = (call, &outcome) {
+        let client = Client::load(lent.state[client_index(client)]).0;
+        if client.recovering == 1 && Ledger::load(lent.state[ledger_index(client.ledger)]).0.version == 1 {
+            return Outcome::Answer(Answer::Done);
+        }
+    }
+    outcome
+}
+
 // The last score is not looked at.
 fn skips_the_last_score(call: Call, lent: &mut Lent) -> Outcome {
     match call {
@@ -285,6 +312,20 @@ fn finds_an_empty_ledger_that_stays_open() {
     // Client 0 leads, and closes its first ledger.
     assert!(history(&report).len() <= 7, "{report}");
     assert!(report.contains("gives Answer(Refused(14)), the model Answer(Done)"), "{report}");
+}
+
+#[test]
+fn finds_a_flag_that_stays() {
+    let report = first(histories::compare, keeps_recovering, 100).expect("the fault is found");
+    // Client 0 appends a ledger, another fences and finishes it, and creates one.
+    assert!(history(&report).len() <= 12, "{report}");
+    assert!(report.contains("state word"), "{report}");
+}
+
+#[test]
+fn finds_a_finish_that_should_be_refused() {
+    let report = first(buffers::compare, finishes_a_closed_ledger, 1000).expect("the fault is found");
+    assert!(report.contains("gives Answer(Done), the model Answer(Refused(9))"), "{report}");
 }
 
 #[test]

@@ -16,6 +16,7 @@ fn stage(status: Status) -> Stage {
         Status::PendingCreateLedger => Stage::Creating,
         Status::PendingAppendLedger => Stage::Appending,
         Status::HasOpenLedger => Stage::Writing,
+        Status::FinishLastLedger => Stage::Finishing,
     }
 }
 
@@ -24,14 +25,18 @@ fn client_agrees(view: &View, number: u64, client: &source::Client) {
     assert_eq!(seen.leads, client.leader);
     assert_eq!(seen.stage, stage(client.status));
     assert_eq!(seen.list_version.map_or(-1, |version| version as i64), client.llist_version);
-    let ledger = seen.ledger.map_or((0, false, -1), |seen| (seen.number.0, seen.open, seen.version as i64));
-    assert_eq!(ledger, (client.ledger.id, client.ledger.open, client.ledger.version));
+    let ledger = seen
+        .ledger
+        .map_or((0, false, -1, false), |seen| (seen.number.0, seen.open, seen.version as i64, seen.recovering));
+    let expected = client.ledger;
+    assert_eq!(ledger, (expected.id, expected.open, expected.version, expected.recovering));
 }
 
 fn ledger_agrees(view: &View, number: u64, source: &Source) {
     let fenced = source.b_ledgers.get(&number).is_some_and(|stored| stored.fenced);
-    let expected = source.md_ledgers.get(&number).map(|ledger| (ledger.open, ledger.version as u64, fenced));
-    let seen = view.ledger(LedgerNumber(number)).map(|seen| (seen.open, seen.version, seen.fenced));
+    let ledger = source.md_ledgers.get(&number);
+    let expected = ledger.map(|ledger| (ledger.open, ledger.version as u64, fenced, ledger.recovering));
+    let seen = view.ledger(LedgerNumber(number)).map(|seen| (seen.open, seen.version, seen.fenced, seen.recovering));
     assert_eq!(seen, expected, "ledger {number}");
 }
 
@@ -90,13 +95,16 @@ fn layout_agrees(view: &View, state: &[u64], entries: &[u64]) {
         let seen = view.client(number).unwrap();
         assert_eq!((seen.leads as u64, seen.stage as u64), (client.leads, client.stage));
         assert_eq!(seen.list_version.unwrap_or(NONE), client.list_version);
-        let ledger = seen.ledger.map_or((0, 0, NONE), |seen| (seen.number.0, seen.open as u64, seen.version));
-        assert_eq!(ledger, (client.ledger, client.open, client.version));
+        let ledger = seen
+            .ledger
+            .map_or((0, 0, NONE, 0), |seen| (seen.number.0, seen.open as u64, seen.version, seen.recovering as u64));
+        assert_eq!(ledger, (client.ledger, client.open, client.version, client.recovering));
     }
     for number in 1..head.next_ledger {
         let ledger = layout::Ledger::load(state[ledger_index(number)]).0;
         let seen = view.ledger(LedgerNumber(number)).unwrap();
-        assert_eq!((seen.open as u64, seen.version, seen.fenced as u64), (ledger.open, ledger.version, ledger.fenced));
+        assert_eq!((seen.open as u64, seen.version), (ledger.open, ledger.version));
+        assert_eq!((seen.fenced as u64, seen.recovering as u64), (ledger.fenced, ledger.recovering));
     }
     for place in 1..=head.list_length {
         let ledger = layout::Place::load(state[place_index(place)]).0.ledger;

@@ -45,12 +45,13 @@ const KINDS: [Kind; 5] = [
 ];
 
 /// The steps that are drawn, in the program's order. No list of scores is.
-const STEPS: [(&str, Step); 9] = [
+const STEPS: [(&str, Step); 10] = [
     ("name", Step::Name),
     ("become", Step::Become),
     ("abdicate", Step::Abdicate),
     ("fetch", Step::Fetch),
     ("close last", Step::CloseLast),
+    ("finish", Step::Finish),
     ("create", Step::Create),
     ("append", Step::Append),
     ("write", Step::Write(0)),
@@ -93,6 +94,7 @@ fn draw_step(log: &Source, kind: &Kind, client: u64, r: u64) -> Step {
         Status::Waiting => Step::Become,
         Status::GetMdForClosing => Step::Fetch,
         Status::CloseLastLedger => Step::CloseLast,
+        Status::FinishLastLedger => Step::Finish,
         Status::PendingCreateLedger => Step::Create,
         Status::PendingAppendLedger => Step::Append,
         Status::HasOpenLedger if falls(r, 22, kind.close_own) => Step::CloseOwn,

@@ -48,6 +48,7 @@ pub fn step(line: &[u8]) -> Option<(u64, Step)> {
         b"A" => Step::Abdicate,
         b"F" => Step::Fetch,
         b"L" => Step::CloseLast,
+        b"K" => Step::Finish,
         b"C" => Step::Create,
         b"P" => Step::Append,
         b"W" => Step::Write(number(fields.next()?, u64::MAX)?),

@@ -7,13 +7,13 @@ use expected::session::transcript;
 const WHOLE: &[(&str, &str)] = &[
     (
         "session_of_01",
-        "1 ok | 2 ok | 3 ok | 4 ok | 5 entry 0 place 0 | 6 ok | 7 ok | 8 ok | 9 ok | 10 ref 12 | 11 ok | \
-         12 ok | 13 entry 1 place 0 | 14 behind | chain 0:7 1:9",
+        "1 ok | 2 ok | 3 ok | 4 ok | 5 entry 0 place 0 | 6 ok | 7 ok | 8 ok | 9 ok | 10 ok | 11 ref 12 | 12 \
+         ok | 13 ok | 14 entry 1 place 0 | 15 behind | chain 0:7 1:9",
     ),
     (
         "session_of_01_write_after",
-        "1 ok | 2 ok | 3 ok | 4 ok | 5 entry 0 place 0 | 6 ok | 7 ok | 8 ok | 9 ok | 10 ref 12 | 11 ok | \
-         12 ok | 13 entry 1 place 0 | 14 ref 12 | chain 0:7 1:9",
+        "1 ok | 2 ok | 3 ok | 4 ok | 5 entry 0 place 0 | 6 ok | 7 ok | 8 ok | 9 ok | 10 ok | 11 ref 12 | 12 \
+         ok | 13 ok | 14 entry 1 place 0 | 15 ref 12 | chain 0:7 1:9",
     ),
     ("empty_input", "bad start"),
     ("start_unended", "bad start"),
@@ -32,12 +32,12 @@ const WHOLE: &[(&str, &str)] = &[
     ("start_16", "1 ok | 2 ok | 3 ok | 4 ok | 5 ok | 6 entry 0 place 0 | 7 ref 3 | 8 ref 3 | 9 ref 3 | chain 15:5"),
     ("line_empty", "1 bad line | 2 ok | 3 bad line | chain"),
     ("line_client_256", "1 bad line | 2 ok | chain"),
-    ("line_letter_k", "1 bad line | 2 ok | chain"),
+    ("line_letter_d", "1 bad line | 2 ok | chain"),
     (
         "line_value_unwanted",
         "1 bad line | 2 bad line | 3 ok | 4 bad line | 5 bad line | 6 ok | 7 bad line | 8 ok | 9 bad line | \
          10 ok | 11 entry 0 place 0 | 12 bad line | 13 ok | 14 ok | 15 ok | 16 ok | 17 bad line | 18 was | \
-         chain 0:1",
+         19 bad line | chain 0:1",
     ),
     ("value_missing", "1 ok | 2 ok | 3 ok | 4 ok | 5 bad line | 6 entry 0 place 0 | chain 0:1"),
     ("value_2_64", "1 ok | 2 ok | 3 ok | 4 ok | 5 bad line | 6 entry 0 place 0 | chain 0:1"),
@@ -54,40 +54,76 @@ const WHOLE: &[(&str, &str)] = &[
     ("end_unended_only", "1 bad line | chain"),
     ("end_newline", "1 ok | 2 ok | chain"),
     ("end_two_newlines", "1 ok | 2 ok | 3 bad line | chain"),
-    ("ref_3", "1 ref 3 | 2 ref 3 | 3 ref 3 | 4 ref 3 | 5 ref 3 | 6 ref 3 | 7 ref 3 | 8 ref 3 | 9 ref 3 | chain"),
+    (
+        "ref_3",
+        "1 ref 3 | 2 ref 3 | 3 ref 3 | 4 ref 3 | 5 ref 3 | 6 ref 3 | 7 ref 3 | 8 ref 3 | 9 ref 3 | 10 ref 3 | chain",
+    ),
     ("ref_3_before_11", "1 ref 3 | 2 ref 3 | 3 ref 7 | chain"),
     ("ref_4_name", "1 ref 4 | 2 ok | 3 ref 4 | 4 ok | chain"),
     ("ref_4_abdicate", "1 ref 7 | 2 ok | 3 ref 4 | 4 ok | 5 ok | 6 ref 7 | chain"),
     ("ref_5_before_6", "1 ok | 2 ok | 3 ref 5 | chain"),
     ("ref_6", "1 ref 6 | 2 ok | 3 ref 6 | 4 ok | chain"),
-    ("ref_7", "1 ref 7 | 2 ref 7 | 3 ref 7 | 4 ref 7 | 5 ref 7 | 6 ref 7 | 7 ref 7 | chain"),
-    ("ref_8_stage_1", "1 ok | 2 ref 8 | 3 ref 8 | 4 ref 8 | 5 ref 8 | 6 ref 8 | 7 ok | chain"),
+    ("ref_7", "1 ref 7 | 2 ref 7 | 3 ref 7 | 4 ref 7 | 5 ref 7 | 6 ref 7 | 7 ref 7 | 8 ref 7 | chain"),
+    ("ref_8_stage_1", "1 ok | 2 ref 8 | 3 ref 8 | 4 ref 8 | 5 ref 8 | 6 ref 8 | 7 ref 8 | 8 ok | chain"),
     (
         "ref_8_stage_2",
-        "1 ok | 2 ok | 3 ok | 4 ok | 5 ok | 6 ok | 7 ok | 8 ref 8 | 9 ref 8 | 10 ref 8 | 11 ref 8 | \
-         12 ref 8 | 13 ok | chain",
+        "1 ok | 2 ok | 3 ok | 4 ok | 5 ok | 6 ok | 7 ok | 8 ref 8 | 9 ref 8 | 10 ref 8 | 11 ref 8 | 12 ref 8 | \
+         13 ref 8 | 14 ok | 15 ok | chain",
     ),
-    ("ref_8_stage_3", "1 ok | 2 ok | 3 ref 8 | 4 ref 8 | 5 ref 8 | 6 ref 8 | 7 ref 8 | 8 ok | chain"),
-    ("ref_8_stage_4", "1 ok | 2 ok | 3 ok | 4 ref 8 | 5 ref 8 | 6 ref 8 | 7 ref 8 | 8 ref 8 | 9 ok | chain"),
+    ("ref_8_stage_3", "1 ok | 2 ok | 3 ref 8 | 4 ref 8 | 5 ref 8 | 6 ref 8 | 7 ref 8 | 8 ref 8 | 9 ok | chain"),
+    ("ref_8_stage_4", "1 ok | 2 ok | 3 ok | 4 ref 8 | 5 ref 8 | 6 ref 8 | 7 ref 8 | 8 ref 8 | 9 ref 8 | 10 ok | chain"),
     (
         "ref_8_stage_5",
-        "1 ok | 2 ok | 3 ok | 4 ok | 5 ref 8 | 6 ref 8 | 7 ref 8 | 8 ref 8 | 9 entry 0 place 0 | 10 ok | chain 0:1",
+        "1 ok | 2 ok | 3 ok | 4 ok | 5 ref 8 | 6 ref 8 | 7 ref 8 | 8 ref 8 | 9 ref 8 | 10 entry 0 place 0 | 11 ok | \
+         chain 0:1",
+    ),
+    (
+        "ref_8_stage_6",
+        "1 ok | 2 ok | 3 ok | 4 ok | 5 ok | 6 ok | 7 ok | 8 ok | 9 ref 8 | 10 ref 8 | 11 ref 8 | 12 ref 8 | \
+         13 ref 8 | 14 ref 8 | 15 ok | chain",
+    ),
+    (
+        "finish_left_out",
+        "1 ok | 2 ok | 3 ok | 4 ok | 5 entry 0 place 0 | 6 ok | 7 ok | 8 ok | 9 ok | 10 ref 12 | 11 ref 8 | \
+         12 ref 8 | 13 ref 8 | 14 behind | chain 0:7",
+    ),
+    (
+        "finish_by_another",
+        "1 ok | 2 ok | 3 ok | 4 ok | 5 entry 0 place 0 | 6 ok | 7 ok | 8 ok | 9 ok | 10 ok | 11 ok | 12 ok | \
+         13 ok | 14 ok | 15 ok | 16 ok | 17 entry 1 place 0 | 18 behind | 19 ok | 20 ok | 21 ref 12 | 22 ok | \
+         chain 0:1 2:2",
+    ),
+    (
+        "finish_meanwhile",
+        "1 ok | 2 ok | 3 ok | 4 ok | 5 ok | 6 ok | 7 ok | 8 ok | 9 ok | 10 ok | 11 ok | 12 ok | 13 ok | \
+         14 behind | 15 ref 8 | 16 ok | 17 was | chain",
+    ),
+    (
+        "finish_fetched_open",
+        "1 ok | 2 ok | 3 ok | 4 ok | 5 ok | 6 ok | 7 ok | 8 ok | 9 ok | 10 ok | 11 ok | 12 behind | 13 ok | \
+         14 ok | 15 ok | 16 behind | chain",
+    ),
+    (
+        "finish_owner",
+        "1 ok | 2 ok | 3 ok | 4 ok | 5 entry 0 place 0 | 6 ok | 7 ok | 8 ok | 9 ok | 10 ref 12 | 11 behind | \
+         12 ref 7 | 13 ok | chain 0:1",
     ),
     ("ref_7_before_11", "1 ref 7 | 2 ref 7 | 3 ref 7 | chain"),
     ("ref_8_before_11", "1 ok | 2 ref 8 | 3 ok | 4 ref 8 | 5 ok | 6 ref 8 | 7 ref 8 | chain"),
     (
         "ref_11_before_12",
-        "1 ok | 2 ok | 3 ok | 4 ok | 5 entry 0 place 0 | 6 ok | 7 ok | 8 ok | 9 ok | 10 ref 11 | 11 ref 12 | chain 0:1",
+        "1 ok | 2 ok | 3 ok | 4 ok | 5 entry 0 place 0 | 6 ok | 7 ok | 8 ok | 9 ok | 10 ok | 11 ref 11 | 12 \
+         ref 12 | chain 0:1",
     ),
     (
         "ref_12",
-        "1 ok | 2 ok | 3 ok | 4 ok | 5 ok | 6 ok | 7 ok | 8 entry 0 place 0 | 9 ok | 10 ref 12 | 11 ref 12 | \
-         chain 0:1",
+        "1 ok | 2 ok | 3 ok | 4 ok | 5 ok | 6 ok | 7 ok | 8 entry 0 place 0 | 9 ok | 10 ok | 11 ref 12 | 12 \
+         ref 12 | chain 0:1",
     ),
     (
         "ref_12_others_wrote",
-        "1 ok | 2 ok | 3 ok | 4 ok | 5 entry 0 place 0 | 6 ok | 7 ok | 8 ok | 9 ok | 10 ok | 11 ok | \
-         12 entry 1 place 0 | 13 ref 12 | 14 entry 2 place 1 | 15 ref 12 | chain 0:1 1:2 1:4",
+        "1 ok | 2 ok | 3 ok | 4 ok | 5 entry 0 place 0 | 6 ok | 7 ok | 8 ok | 9 ok | 10 ok | 11 ok | 12 ok | \
+         13 entry 1 place 0 | 14 ref 12 | 15 entry 2 place 1 | 16 ref 12 | chain 0:1 1:2 1:4",
     ),
     ("close_own_empty", "1 ok | 2 ok | 3 ok | 4 ok | 5 ok | 6 ref 8 | 7 ref 8 | 8 ref 8 | chain"),
     (
@@ -97,7 +133,7 @@ const WHOLE: &[(&str, &str)] = &[
     (
         "close_own_empty_after_handover",
         "1 ok | 2 ok | 3 ok | 4 ok | 5 entry 0 place 0 | 6 ok | 7 ok | 8 ok | 9 ok | 10 ok | 11 ok | 12 ok | \
-         13 behind | 14 ref 8 | 15 ref 8 | chain 0:1",
+         13 ok | 14 behind | 15 ref 8 | 16 ref 8 | chain 0:1",
     ),
     ("close_own_empty_no_longer_named", "1 ok | 2 ok | 3 ok | 4 ok | 5 ok | 6 ok | 7 ref 8 | 8 ref 8 | chain"),
     (
@@ -111,15 +147,18 @@ const WHOLE: &[(&str, &str)] = &[
     ),
     (
         "stale_write_before_fence",
-        "1 ok | 2 ok | 3 ok | 4 ok | 5 ok | 6 entry 0 place 0 | 7 ok | 8 entry 1 place 1 | 9 ok | \
-         10 entry 2 place 2 | 11 ok | 12 ref 12 | chain 0:1 0:2 0:3",
+        "1 ok | 2 ok | 3 ok | 4 ok | 5 ok | 6 entry 0 place 0 | 7 ok | 8 entry 1 place 1 | 9 ok | 10 entry 2 \
+         place 2 | 11 ok | 12 ok | 13 ref 12 | chain 0:1 0:2 0:3",
     ),
     (
         "stale_close_own",
-        "1 ok | 2 ok | 3 ok | 4 ok | 5 entry 0 place 0 | 6 ok | 7 ok | 8 ok | 9 ok | 10 behind | 11 ref 7 | \
-         12 ref 7 | 13 ok | 14 ok | 15 entry 1 place 0 | chain 0:1 1:3",
+        "1 ok | 2 ok | 3 ok | 4 ok | 5 entry 0 place 0 | 6 ok | 7 ok | 8 ok | 9 ok | 10 ok | 11 behind | 12 \
+         ref 7 | 13 ref 7 | 14 ok | 15 ok | 16 entry 1 place 0 | chain 0:1 1:3",
     ),
-    ("stale_close_own_empty", "1 ok | 2 ok | 3 ok | 4 ok | 5 ok | 6 ok | 7 ok | 8 ok | 9 behind | 10 ref 7 | chain"),
+    (
+        "stale_close_own_empty",
+        "1 ok | 2 ok | 3 ok | 4 ok | 5 ok | 6 ok | 7 ok | 8 ok | 9 ok | 10 behind | 11 ref 7 | chain",
+    ),
     (
         "append_behind",
         "1 ok | 2 ok | 3 ok | 4 ok | 5 ok | 6 ok | 7 ok | 8 ok | 9 behind | 10 ref 7 | 11 ref 7 | \
@@ -128,23 +167,25 @@ const WHOLE: &[(&str, &str)] = &[
     (
         "close_last_behind",
         "1 ok | 2 ok | 3 ok | 4 ok | 5 entry 0 place 0 | 6 ok | 7 ok | 8 ok | 9 ok | 10 ok | 11 ok | 12 ok | \
-         13 behind | 14 ref 8 | 15 ref 8 | 16 ok | 17 was | 18 ok | 19 ok | 20 entry 1 place 0 | chain 0:1 2:2",
+         13 ok | 14 behind | 15 ref 8 | 16 ref 8 | 17 ok | 18 was | 19 ok | 20 ok | 21 entry 1 place 0 | \
+         chain 0:1 2:2",
     ),
     (
         "close_last_behind_not_fenced",
-        "1 ok | 2 ok | 3 ok | 4 ok | 5 entry 0 place 0 | 6 ok | 7 ok | 8 ok | 9 ok | 10 behind | 11 ok | \
-         12 ok | 13 entry 1 place 0 | 14 ok | 15 ok | 16 ref 12 | chain 0:1 0:2",
+        "1 ok | 2 ok | 3 ok | 4 ok | 5 entry 0 place 0 | 6 ok | 7 ok | 8 ok | 9 ok | 10 behind | 11 ok | 12 \
+         ok | 13 entry 1 place 0 | 14 ok | 15 ok | 16 ok | 17 ref 12 | chain 0:1 0:2",
     ),
     (
         "close_last_was_list_moved",
         "1 ok | 2 ok | 3 ok | 4 ok | 5 entry 0 place 0 | 6 ok | 7 ok | 8 ok | 9 ok | 10 ok | 11 ok | 12 ok | \
-         13 ok | 14 was | 15 ok | 16 behind | 17 ok | 18 ok | 19 ok | 20 ok | 21 ok | 22 entry 1 place 0 | \
-         23 ref 12 | chain 0:1 1:2",
+         13 ok | 14 was | 15 ok | 16 behind | 17 ok | 18 ok | 19 ok | 20 ok | 21 ok | 22 ok | 23 entry 1 \
+         place 0 | 24 ref 12 | chain 0:1 1:2",
     ),
     (
         "close_last_behind_other_writes",
         "1 ok | 2 ok | 3 ok | 4 ok | 5 entry 0 place 0 | 6 ok | 7 ok | 8 ok | 9 ok | 10 ok | 11 ok | 12 ok | \
-         13 ok | 14 ok | 15 behind | 16 entry 1 place 0 | 17 ok | 18 entry 2 place 1 | chain 0:1 2:2 2:3",
+         13 ok | 14 ok | 15 ok | 16 behind | 17 entry 1 place 0 | 18 ok | 19 entry 2 place 1 | chain 0:1 2:2 \
+         2:3",
     ),
     (
         "three_race",
@@ -163,8 +204,8 @@ const WHOLE: &[(&str, &str)] = &[
     ),
     (
         "abdicate_return_old_memory",
-        "1 ok | 2 ok | 3 ok | 4 ok | 5 entry 0 place 0 | 6 ok | 7 ok | 8 ok | 9 ok | 10 ref 8 | 11 ref 8 | \
-         12 ok | 13 ref 8 | 14 ok | 15 ok | 16 ok | 17 entry 1 place 0 | chain 0:1 0:3",
+        "1 ok | 2 ok | 3 ok | 4 ok | 5 entry 0 place 0 | 6 ok | 7 ok | 8 ok | 9 ok | 10 ref 8 | 11 ref 8 | 12 \
+         ok | 13 ref 8 | 14 ok | 15 ok | 16 ok | 17 ok | 18 entry 1 place 0 | chain 0:1 0:3",
     ),
     (
         "own_close_no_fetch",
@@ -179,7 +220,8 @@ const WHOLE: &[(&str, &str)] = &[
     (
         "chain_same_value",
         "1 ok | 2 ok | 3 ok | 4 ok | 5 entry 0 place 0 | 6 entry 1 place 1 | 7 entry 2 place 2 | 8 ok | 9 ok | \
-         10 ok | 11 ok | 12 ok | 13 ok | 14 entry 3 place 0 | 15 entry 4 place 1 | chain 0:1 0:1 0:1 1:1 1:1",
+         10 ok | 11 ok | 12 ok | 13 ok | 14 ok | 15 entry 3 place 0 | 16 entry 4 place 1 | chain 0:1 0:1 \
+         0:1 1:1 1:1",
     ),
     ("bytes_16384", "1 ok | 2 bad line | 3 ok | chain"),
     ("bytes_16384_unended", "1 ok | 2 bad line | 3 bad line | chain"),

@@ -8,12 +8,13 @@ use model::source::{Source, Status};
 use std::collections::BTreeSet;
 
 /// Every answer that a step can give in a session; no other may come.
-const ANSWERS: [(&str, &[&str]); 9] = [
+const ANSWERS: [(&str, &[&str]); 10] = [
     ("N", &["ok", "ref 3", "ref 4"]),
     ("B", &["ok", "ref 3", "ref 5", "ref 6"]),
     ("A", &["ok", "ref 3", "ref 4", "ref 7"]),
     ("F", &["ok", "ref 3", "ref 7", "ref 8"]),
     ("L", &["ok", "was", "behind", "ref 3", "ref 7", "ref 8"]),
+    ("K", &["ok", "behind", "ref 3", "ref 7", "ref 8"]),
     ("C", &["ok", "ref 3", "ref 7", "ref 8", "ref 10"]),
     ("P", &["ok", "behind", "ref 3", "ref 7", "ref 8"]),
     ("W", &["entry", "ref 3", "ref 7", "ref 8", "ref 11", "ref 12"]),
@@ -21,12 +22,13 @@ const ANSWERS: [(&str, &[&str]); 9] = [
 ];
 
 /// A leader's stages, each with its own steps; each of the others is refused by 8 there.
-const OWN_STEPS: [(Status, &str); 5] = [
+const OWN_STEPS: [(Status, &str); 6] = [
     (Status::GetMdForClosing, "F"),
     (Status::CloseLastLedger, "L"),
     (Status::PendingCreateLedger, "C"),
     (Status::PendingAppendLedger, "P"),
     (Status::HasOpenLedger, "WO"),
+    (Status::FinishLastLedger, "K"),
 ];
 
 /// Calls this with the letter, the stage before, the answer and the log after, for each good line of every input.
@@ -65,7 +67,7 @@ fn every_other_stage_is_met() {
             met.insert((stage.expect("a known client") as u64, letter));
         }
     });
-    let others = |own: &'static str| "FLCPWO".chars().filter(move |letter| !own.contains(*letter));
+    let others = |own: &'static str| "FLKCPWO".chars().filter(move |letter| !own.contains(*letter));
     let expected = OWN_STEPS.iter().flat_map(|&(stage, own)| others(own).map(move |letter| (stage as u64, letter)));
     assert_eq!(met, expected.collect());
 }
@@ -79,6 +81,8 @@ fn what_002_keeps() {
         }
         assert!(log.c_state.iter().all(|client| log.md_llist.starts_with(&client.llist)));
         assert!(log.md_llist.iter().filter(|id| log.md_ledgers[id].open).count() <= 1);
+        let before_last = log.md_llist.iter().rev().skip(1);
+        assert!(before_last.map(|id| log.md_ledgers[id]).all(|ledger| !ledger.open && !ledger.recovering));
         if "WP".contains(letter) {
             let newest = log.b_ledgers.iter().flat_map(|(id, stored)| Some((stored.entries.last()?.0, id))).max();
             assert!(newest.is_none_or(|(_, id)| log.md_llist.contains(id)));

@@ -49,6 +49,7 @@ impl Profile {
             _ if stale && random.chance(5) => Step::Abdicate,
             Status::GetMdForClosing => Step::Fetch,
             Status::CloseLastLedger => Step::CloseLast,
+            Status::FinishLastLedger => Step::Finish,
             Status::PendingCreateLedger => Step::Create,
             Status::PendingAppendLedger => Step::Append,
             Status::HasOpenLedger if random.chance(self.writes) => any_write(random),

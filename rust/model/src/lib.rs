@@ -44,8 +44,10 @@ pub enum Step {
     Abdicate,
     /// The client fetches the list and the last ledger.
     Fetch,
-    /// The client closes and fences the last ledger.
+    /// The client fences the last ledger.
     CloseLast,
+    /// The client closes the ledger that is fenced.
+    Finish,
     /// The client creates a ledger.
     Create,
     /// The client appends its ledger to the list.
@@ -60,12 +62,13 @@ pub enum Step {
 
 impl Step {
     /// The steps, the write with a value of 0 and that of scores with one score, of 0.
-    pub const ALL: [Step; 10] = [
+    pub const ALL: [Step; 11] = [
         Step::Name,
         Step::Become,
         Step::Abdicate,
         Step::Fetch,
         Step::CloseLast,
+        Step::Finish,
         Step::Create,
         Step::Append,
         Step::Write(0),

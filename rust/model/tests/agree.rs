@@ -64,6 +64,7 @@ fn session() {
         (1, Step::Become, Done),
         (1, Step::Fetch, Done),
         (1, Step::CloseLast, Done),
+        (1, Step::Finish, Done),
         (0, Step::Write(8), Refused(12)),
         (1, Step::Create, Done),
         (1, Step::Append, Done),
@@ -76,7 +77,7 @@ fn session() {
     let mut output = [0; 2];
     assert_eq!(words::read_chain(&state, &entries, &mut output), Ok(2));
     assert_eq!(output, [7, (1 << 52) + 9]);
-    assert_eq!(state[17..19], [0x00C0000000000000, 0x8000000000000000]);
+    assert_eq!(state[17..19], [0x0140000000000000, 0x8000000000000000]);
 }
 
 // The reference's examples of refusals.
@@ -109,8 +110,8 @@ fn empty_ledgers() {
         assert_eq!(step(1, taken), Answer::Done);
     }
     assert_eq!(step(0, Step::CloseOwn), Answer::Behind);
-    assert_eq!(state[17..20], [0x0080000000000000, 0x00C0000000000000, 0]);
-    assert_eq!([0, 1].map(|client| Client::load(state[client_index(client)]).0.stage), [0, 3]);
+    assert_eq!(state[17..20], [0x0080000000000000, 0x00E0000000000000, 0]);
+    assert_eq!([0, 1].map(|client| Client::load(state[client_index(client)]).0.stage), [0, 6]);
     for ledger in [1, 2] {
         assert_eq!(words::read_ledger(&state, &entries, ledger).map(|part| part.len()), Ok(0));
     }
@@ -134,7 +135,7 @@ fn wide_values() {
     }
     assert_eq!(step(0, wide), Answer::Refused(11));
     assert_eq!(step(0, Step::Write((1 << 52) - 1)), Answer::Refused(12));
-    let forgetful = Client { leads: 1, stage: 5, list_version: 1, ledger: 0, open: 0, version: NONE };
+    let forgetful = Client { leads: 1, stage: 5, list_version: 1, ledger: 0, open: 0, version: NONE, recovering: 0 };
     state[client_index(0)] = forgetful.word();
     assert_eq!(words::step(&mut state, &mut entries, 0, wide), Answer::Refused(9));
 }

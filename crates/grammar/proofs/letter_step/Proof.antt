@@ -38,9 +38,14 @@ returns-8 c = rw (c .match .keys8)
 
 returns-9 : tie.Need-returns-9
 unfolding letterStep
-returns-9 c =
+returns-9 c = rw (c .match .keys9)
+
+returns-10 : tie.Need-returns-10
+unfolding letterStep
+returns-10 c =
     let k = c .match .rest in
     rw (
+      ne-eqb _ _ (k .0 .0 .0 .0 .0 .0 .0 .0 .1),
       ne-eqb _ _ (k .0 .0 .0 .0 .0 .0 .0 .1),
       ne-eqb _ _ (k .0 .0 .0 .0 .0 .0 .1),
       ne-eqb _ _ (k .0 .0 .0 .0 .0 .1),
@@ -63,4 +68,5 @@ letter-step-spec =
     returns-6
     returns-7
     returns-8
-    returns-9)
+    returns-9
+    returns-10)

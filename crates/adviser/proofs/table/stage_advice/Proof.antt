@@ -21,6 +21,9 @@ enum-told-5 c = search needs
 enum-told-6 : tie.Need-enum-told-6
 enum-told-6 c = search needs
 
+enum-told-7 : tie.Need-enum-told-7
+enum-told-7 c = search needs
+
 returns : tie.Need-returns
 returns c = rw (c .enum-told .given .1)
 
@@ -42,6 +45,9 @@ returns-6 c = rw (c .before .enum-told6 .given .1, c .if1 .taken)
 returns-7 : tie.Need-returns-7
 returns-7 c = rw (c .before .enum-told6 .given .1, c .if1 .left)
 
+returns-8 : tie.Need-returns-8
+returns-8 c = rw (c .enum-told7 .given .1)
+
 pub stage-advice-spec : {M : Type 1} → statement M
 stage-advice-spec =
     tie.close
@@ -52,10 +58,12 @@ stage-advice-spec =
     enum-told-4
     enum-told-5
     enum-told-6
+    enum-told-7
     returns
     returns-2
     returns-3
     returns-4
     returns-5
     returns-6
-    returns-7)
+    returns-7
+    returns-8)

@@ -44,6 +44,9 @@ enum-told-8 c = search needs
 enum-told-9 : tie.Need-enum-told-9
 enum-told-9 c = search needs
 
+enum-told-10 : tie.Need-enum-told-10
+enum-told-10 c = search needs
+
 returns : tie.Need-returns
 returns c = ap (λ (n : ℕ). 256 + n) (c .refusal-number .ensures) ∙ sym (ap adviceNumber (c .before .before .a .given .1))
 
@@ -74,6 +77,9 @@ returns-9 c = sym (ap adviceNumber (c .enum-told8 .given .1))
 returns-10 : tie.Need-returns-10
 returns-10 c = sym (ap adviceNumber (c .enum-told9 .given .1))
 
+returns-11 : tie.Need-returns-11
+returns-11 c = sym (ap adviceNumber (c .enum-told10 .given .1))
+
 pub advice-number-spec : {M : Type 1} → statement M
 advice-number-spec =
     tie.close
@@ -90,6 +96,7 @@ advice-number-spec =
     enum-told-7
     enum-told-8
     enum-told-9
+    enum-told-10
     returns
     returns-2
     returns-3
@@ -99,4 +106,5 @@ advice-number-spec =
     returns-7
     returns-8
     returns-9
-    returns-10)
+    returns-10
+    returns-11)

@@ -8,7 +8,7 @@ abbrev Inv-loop : tie.InvT-loop
 Inv-loop model₀ state₀ entries₀ n₀ model state entries n = Unit
 
 abbrev μ-loop : tie.MeasureT-loop
-μ-loop model₀ state₀ entries₀ n₀ model state entries n = 14 - n
+μ-loop model₀ state₀ entries₀ n₀ model state entries n = 15 - n
 
 begin-requires : tie.Need-begin-requires Inv-loop μ-loop
 begin-requires c κs = search needs
