@@ -2,12 +2,12 @@
  * puts it, this header and a file for pkg-config below PREFIX.
  *
  * A log lives in two buffers of 64-bit words that the caller lends, one for the state and one for the entries. Nobody else writes them.
- * Persist both together after every step that is not refused.
+ * Persist both together after every step that is not refused. Marks, for those who keep any, are a third such buffer.
  *
- * Buffers of any length and content are answered, and so is every number. A null pointer with length 0 is an empty buffer; as state or
- * entries it gives refusal 1, as every wrong length does. What the caller answers for: any other pointer is not null, is aligned for
- * uint64_t (that to scores for uint16_t) and is valid for as many words or scores as the length beside it says; the buffers of one call do
- * not overlap: state, entries, output and scores are separate pieces of memory; and no other thread uses them during the call.
+ * Buffers of any length and content are answered, and so is every number. A null pointer with length 0 is an empty buffer; as state,
+ * entries or marks it gives refusal 1, as every wrong length does. What the caller answers for: any other pointer is not null, is aligned
+ * for uint64_t (that to scores for uint16_t) and is valid for as many words or scores as the length beside it says; the buffers of one call
+ * do not overlap: state, entries, marks, output and scores are separate pieces of memory; and no other thread uses them during the call.
  *
  * Rust declares the same functions in an `extern "C"` block, and the structs as #[repr(C)].
  */
@@ -33,6 +33,10 @@ uint64_t cindrolf_version(void);
 /* The lengths of the two buffers, in words. */
 #define CINDROLF_STATE_WORDS 527
 #define CINDROLF_ENTRY_WORDS 4096
+
+/* The length of the marks buffer, in words, and the most marks that it keeps. */
+#define CINDROLF_MARK_WORDS 64
+#define CINDROLF_MARKS_LIMIT 32
 
 /* The most scores that one write takes, and the highest score. */
 #define CINDROLF_SCORES_LIMIT 4000
@@ -61,8 +65,8 @@ static inline uint64_t cindrolf_answer_entry(uint64_t answer) { return (answer -
 static inline uint64_t cindrolf_answer_place(uint64_t answer) { return answer & 65535; }
 
 /* The refusals. The first that applies is given; it changes no word of any buffer. */
-#define CINDROLF_REFUSAL_WRONG_LENGTH UINT64_C(1)       /* state or entries has another length than those above */
-#define CINDROLF_REFUSAL_NOT_WELL_FORMED UINT64_C(2)    /* the buffers hold no log */
+#define CINDROLF_REFUSAL_WRONG_LENGTH UINT64_C(1)       /* state, entries or marks has another length than those above */
+#define CINDROLF_REFUSAL_NOT_WELL_FORMED UINT64_C(2)    /* the buffers hold no log, or no marks of this log */
 #define CINDROLF_REFUSAL_UNKNOWN_CLIENT UINT64_C(3)     /* the client is not below the client count */
 #define CINDROLF_REFUSAL_ALREADY_NAMED UINT64_C(4)      /* the client is the named leader */
 #define CINDROLF_REFUSAL_ALREADY_LEADS UINT64_C(5)      /* the client leads already */
@@ -81,6 +85,9 @@ static inline uint64_t cindrolf_answer_place(uint64_t answer) { return answer & 
 #define CINDROLF_REFUSAL_SCORE_COUNT UINT64_C(18)       /* there are no scores, or more than 4000 */
 #define CINDROLF_REFUSAL_SCORE_TOO_HIGH UINT64_C(19)    /* a score is above 372 */
 #define CINDROLF_REFUSAL_WINDOW_LENGTH UINT64_C(20)     /* the window's length is 0 or above 256 */
+#define CINDROLF_REFUSAL_MARK_NAME_TAKEN UINT64_C(21)   /* a mark of this name is kept already, or the name is all zero */
+#define CINDROLF_REFUSAL_MARKS_FULL UINT64_C(22)        /* there are 32 marks */
+#define CINDROLF_REFUSAL_MARK_NOT_KEPT UINT64_C(23)     /* no mark of this name is kept */
 
 /* What cindrolf_advise answers where it does not refuse: the number of a step, or that there is none to take. The steps are numbered in
  * this order. Name is never advised. */
@@ -96,7 +103,7 @@ static inline uint64_t cindrolf_answer_place(uint64_t answer) { return answer & 
 #define CINDROLF_STEP_CLOSE_OWN UINT64_C(9)
 #define CINDROLF_NO_STEP UINT64_C(15)
 
-/* The parts of an entry's word: ledger number (0 in what cindrolf_read_chain writes), client, and value. */
+/* The parts of an entry's word: ledger number (0 in what cindrolf_read_chain and cindrolf_mark_read write), client, and value. */
 static inline uint64_t cindrolf_word_ledger(uint64_t word) { return word >> 56; }
 static inline uint64_t cindrolf_word_client(uint64_t word) { return (word >> 52) & 15; }
 static inline uint64_t cindrolf_word_value(uint64_t word) { return word & ((UINT64_C(1) << 52) - 1); }
@@ -172,7 +179,7 @@ struct cindrolf_ledger_part {
 struct cindrolf_ledger_part cindrolf_read_ledger(const uint64_t *state, size_t state_length, const uint64_t *entries, size_t entries_length,
                                                  uint64_t ledger);
 
-/* How many words cindrolf_read_chain wrote, 0 on a refusal. */
+/* How many words cindrolf_read_chain or cindrolf_mark_read wrote, 0 on a refusal. */
 struct cindrolf_chain_count {
     uint64_t answer;
     uint64_t count;
@@ -197,6 +204,35 @@ struct cindrolf_window_found {
  * no output buffer. */
 struct cindrolf_window_found cindrolf_first_window(const uint64_t *state, size_t state_length, const uint64_t *entries,
                                                    size_t entries_length, uint64_t window, uint64_t limit);
+
+/* Marks: named points of a run. The buffer holds, for each mark in the order of setting, its name and a word with the log's entry count
+ * when it was set, in the 13 most significant bits; zeros follow, and a buffer of zeros keeps no mark. The functions only read the log. They
+ * give refusal 1, where one of the three buffers has another length, or 2, where the two hold no log or the marks are not of this log; then
+ * those named at each. A refusal changes nothing. A mark with more entries than the log has gives refusal 2, so persist a log before the
+ * marks that are set on it, or with them, and clear the marks where a log begins anew. */
+
+/* The name that these eight bytes stand for, the first the most significant. It reads all eight: pad a shorter name with zeros. */
+static inline uint64_t cindrolf_mark_name(const char bytes[8]) {
+    uint64_t name = 0;
+    for (int i = 0; i < 8; i++)
+        name = name << 8 | (unsigned char)bytes[i];
+    return name;
+}
+
+/* Keeps a mark at the log's entry count, behind the marks that are kept: done, or refusal 21 or 22. To move a mark, drop it first. */
+uint64_t cindrolf_mark_set(const uint64_t *state, size_t state_length, const uint64_t *entries, size_t entries_length, uint64_t *marks,
+                           size_t marks_length, uint64_t name);
+
+/* Drops a mark; those behind it move up: done, or refusal 23. */
+uint64_t cindrolf_mark_drop(const uint64_t *state, size_t state_length, const uint64_t *entries, size_t entries_length, uint64_t *marks,
+                            size_t marks_length, uint64_t name);
+
+/* Writes the log's entries up to a mark to the front of the output buffer, in the order of their numbers, each without its ledger number;
+ * the words after them stay. Done, or refusal 23 or 16. At a mark that was set on this log since its cindrolf_fresh, it is what
+ * cindrolf_read_chain gave then, whatever steps came after. CINDROLF_ENTRY_WORDS words of output are enough for every mark. */
+struct cindrolf_chain_count cindrolf_mark_read(const uint64_t *state, size_t state_length, const uint64_t *entries, size_t entries_length,
+                                               const uint64_t *marks, size_t marks_length, uint64_t name, uint64_t *output,
+                                               size_t output_length);
 
 #ifdef __cplusplus
 }

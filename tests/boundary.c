@@ -1,6 +1,6 @@
 /* The version of the library, null pointers with length 0, which every function takes for an empty buffer, an empty ledger that
- * its leader closes, the limits of lent scores, wide values, the numbers and places that writes answer, and those of advised steps.
- * It compiles as C and as C++. */
+ * its leader closes, the limits of lent scores, wide values, the numbers and places that writes answer, those of advised steps,
+ * and marks. It compiles as C and as C++. */
 #include "cindrolf.h"
 
 #include <inttypes.h>
@@ -12,6 +12,7 @@
 static uint64_t state[CINDROLF_STATE_WORDS];
 static uint64_t entries[CINDROLF_ENTRY_WORDS];
 static uint16_t scores[CINDROLF_SCORES_LIMIT + 1];
+static uint64_t marks[CINDROLF_MARK_WORDS + 1];
 static int wrong = 0;
 
 static void expect(const char *what, uint64_t given, uint64_t expected) {
@@ -40,6 +41,19 @@ static const struct {
     {"close own", cindrolf_close_own},
 };
 
+/* Every call on marks refuses these buffers by 1. */
+static void refuse_marks(const uint64_t *s, size_t s_length, const uint64_t *e, size_t e_length, uint64_t *m, size_t m_length) {
+    uint64_t word = 7;
+    expect("set a mark", cindrolf_mark_set(s, s_length, e, e_length, m, m_length, 1), WRONG_LENGTH);
+    expect("set a mark of name 0", cindrolf_mark_set(s, s_length, e, e_length, m, m_length, 0), WRONG_LENGTH);
+    expect("drop a mark", cindrolf_mark_drop(s, s_length, e, e_length, m, m_length, 1), WRONG_LENGTH);
+    struct cindrolf_chain_count read = cindrolf_mark_read(s, s_length, e, e_length, m, m_length, 1, &word, 1);
+    expect("read at a mark", read.answer, WRONG_LENGTH);
+    expect("words that it wrote", read.count, 0);
+    expect("the output", word, 7);
+    expect("read at a mark, no output", cindrolf_mark_read(s, s_length, e, e_length, m, m_length, 1, NULL, 0).answer, WRONG_LENGTH);
+}
+
 /* Every operation refuses these buffers, of which at least one is empty. */
 static void refuse(uint64_t *s, size_t s_length, uint64_t *e, size_t e_length) {
     uint64_t word = 7;
@@ -63,6 +77,8 @@ static void refuse(uint64_t *s, size_t s_length, uint64_t *e, size_t e_length) {
     expect("whether one is found", window.found, 0);
     expect("its start", window.start, 0);
     expect("read chain, no output", cindrolf_read_chain(s, s_length, e, e_length, NULL, 0).answer, WRONG_LENGTH);
+    refuse_marks(s, s_length, e, e_length, marks, CINDROLF_MARK_WORDS);
+    refuse_marks(s, s_length, e, e_length, NULL, 0);
 }
 
 /* A write of so many of the scores. Client 0 leads and has its ledger listed, client 1 does not lead, and there is no other. */
@@ -216,6 +232,159 @@ static void check_recovery(void) {
            CINDROLF_REFUSED + CINDROLF_REFUSAL_OTHER_STAGE);
 }
 
+static uint64_t set_mark(uint64_t name) {
+    return cindrolf_mark_set(state, CINDROLF_STATE_WORDS, entries, CINDROLF_ENTRY_WORDS, marks, CINDROLF_MARK_WORDS, name);
+}
+
+static uint64_t drop_mark(uint64_t name) {
+    return cindrolf_mark_drop(state, CINDROLF_STATE_WORDS, entries, CINDROLF_ENTRY_WORDS, marks, CINDROLF_MARK_WORDS, name);
+}
+
+/* The names of three marks, and the refusals that are theirs alone. */
+#define START UINT64_C(0x7374617274000000)
+#define WASH UINT64_C(0x7761736800000000)
+#define BYTES UINT64_C(0xFF00000000000001)
+#define TAKEN (CINDROLF_REFUSED + 21)
+#define FULL (CINDROLF_REFUSED + 22)
+#define NOT_KEPT (CINDROLF_REFUSED + 23)
+
+static void check_mark_names(void) {
+    const char bytes[8] = {(char)0xFF, 0, 0, 0, 0, 0, 0, 1};
+    expect("a name of five letters", cindrolf_mark_name("start\0\0"), START);
+    expect("a name of four letters", cindrolf_mark_name("wash\0\0\0"), WASH);
+    expect("a name of eight letters", cindrolf_mark_name("pre-wash"), UINT64_C(0x7072652D77617368));
+    expect("a name of any bytes", cindrolf_mark_name(bytes), BYTES);
+}
+
+/* Every word of the marks buffer: these pairs, then zeros. The word behind the buffer stays 9. */
+static void expect_marks(const uint64_t *pairs, size_t count) {
+    for (size_t i = 0; i < CINDROLF_MARK_WORDS; i++)
+        expect("a mark's word", marks[i], i < 2 * count ? pairs[i] : 0);
+    expect("the word behind the marks", marks[CINDROLF_MARK_WORDS], 9);
+}
+
+/* A reading at a mark: its answer, its count, and the words of the output, which were 3 before. */
+static void expect_read(uint64_t name, size_t room, uint64_t answer, uint64_t count) {
+    uint64_t output[4] = {3, 3, 3, 3};
+    const uint64_t reading[] = {11, 12, 13};
+    struct cindrolf_chain_count read = cindrolf_mark_read(state, CINDROLF_STATE_WORDS, entries, CINDROLF_ENTRY_WORDS, marks,
+                                                          CINDROLF_MARK_WORDS, name, output, room);
+    expect("read at a mark", read.answer, answer);
+    expect("words that it wrote", read.count, count);
+    for (size_t i = 0; i < 4; i++)
+        expect("a word of the output", output[i], i < count ? reading[i] : 3);
+}
+
+/* Client 0 writes a value to a ledger that it has just begun. */
+static void write_to_next(uint64_t value) {
+    cindrolf_create(state, CINDROLF_STATE_WORDS, entries, CINDROLF_ENTRY_WORDS, 0);
+    cindrolf_append(state, CINDROLF_STATE_WORDS, entries, CINDROLF_ENTRY_WORDS, 0);
+    uint64_t answer = cindrolf_write(state, CINDROLF_STATE_WORDS, entries, CINDROLF_ENTRY_WORDS, 0, value);
+    expect("a write", (uint64_t)(answer >= CINDROLF_ENTRY), true);
+    cindrolf_close_own(state, CINDROLF_STATE_WORDS, entries, CINDROLF_ENTRY_WORDS, 0);
+}
+
+/* Three marks at 0, 1 and 3 entries; the middle one is dropped, which closes the gap, and set again at the end. */
+static void check_marks_in_order(void) {
+    const uint64_t three[] = {START, 0, WASH, UINT64_C(0x0008000000000000), BYTES, UINT64_C(0x0018000000000000)};
+    const uint64_t two[] = {START, 0, BYTES, UINT64_C(0x0018000000000000)};
+    const uint64_t moved[] = {START, 0, BYTES, UINT64_C(0x0018000000000000), WASH, UINT64_C(0x0018000000000000)};
+    expect("set at no entry", set_mark(START), CINDROLF_DONE);
+    write_to_next(11);
+    expect("set at one entry", set_mark(WASH), CINDROLF_DONE);
+    write_to_next(12);
+    write_to_next(13);
+    expect("set at three entries", set_mark(BYTES), CINDROLF_DONE);
+    expect_marks(three, 3);
+    expect_read(START, 0, CINDROLF_DONE, 0);
+    expect_read(WASH, 1, CINDROLF_DONE, 1);
+    expect_read(WASH, 0, CINDROLF_REFUSED + 16, 0);
+    expect_read(BYTES, 4, CINDROLF_DONE, 3);
+    expect_read(BYTES, 2, CINDROLF_REFUSED + 16, 0);
+    expect("set what is kept", set_mark(WASH), TAKEN);
+    expect("drop", drop_mark(WASH), CINDROLF_DONE);
+    expect_marks(two, 2);
+    expect("drop again", drop_mark(WASH), NOT_KEPT);
+    expect_read(WASH, 0, NOT_KEPT, 0);
+    expect("set again", set_mark(WASH), CINDROLF_DONE);
+    expect_marks(moved, 3);
+    expect_read(WASH, 4, CINDROLF_DONE, 3);
+}
+
+/* Name 0 is never kept, though zero pairs are there; and 21 comes before 22. */
+static void check_mark_limits(void) {
+    const uint64_t before[] = {START, 0, BYTES, UINT64_C(0x0018000000000000), WASH, UINT64_C(0x0018000000000000)};
+    expect("set name 0", set_mark(0), TAKEN);
+    expect("drop name 0", drop_mark(0), NOT_KEPT);
+    expect_read(0, 4, NOT_KEPT, 0);
+    expect_marks(before, 3);
+    for (uint64_t name = 1; name <= CINDROLF_MARKS_LIMIT - 3; name++)
+        expect("a mark more", set_mark(name), CINDROLF_DONE);
+    expect("one too many", set_mark(30), FULL);
+    expect("a kept name while full", set_mark(29), TAKEN);
+    expect("name 0 while full", set_mark(0), TAKEN);
+    expect("the last name", marks[62], 29);
+    expect("the last count", marks[63], UINT64_C(0x0018000000000000));
+    expect("drop the first", drop_mark(START), CINDROLF_DONE);
+    expect("the first name", marks[0], BYTES);
+    expect("the last pair's name", marks[62], 0);
+    expect("the last pair's word", marks[63], 0);
+    expect("set while there is room", set_mark(30), CINDROLF_DONE);
+    expect("the word behind the marks", marks[CINDROLF_MARK_WORDS], 9);
+}
+
+/* With this word in place of one that is kept, no call takes the marks. */
+static void refuse_damage(size_t index, uint64_t word) {
+    const uint64_t not_well_formed = CINDROLF_REFUSED + CINDROLF_REFUSAL_NOT_WELL_FORMED;
+    uint64_t kept = marks[index];
+    marks[index] = word;
+    expect("set on damaged marks", set_mark(BYTES), not_well_formed);
+    expect("drop on damaged marks", drop_mark(0), not_well_formed);
+    expect_read(0, 0, not_well_formed, 0);
+    expect("the damaged word", marks[index], word);
+    marks[index] = kept;
+}
+
+static void check_damaged_marks(void) {
+    memset(marks, 0, CINDROLF_MARK_WORDS * sizeof marks[0]);
+    set_mark(START);
+    set_mark(WASH);
+    refuse_damage(1, UINT64_C(0x0020000000000000)); /* more entries than the log has */
+    refuse_damage(1, UINT64_C(0x0018000000000001)); /* a bit left over */
+    refuse_damage(0, WASH);                         /* a name twice */
+    refuse_damage(0, 0);                            /* a zero name with a count */
+    refuse_damage(5, UINT64_C(0x0008000000000000)); /* the same behind those kept */
+    refuse_damage(6, 5);                            /* a mark behind a zero pair */
+    expect("drop on marks that are whole again", drop_mark(START), CINDROLF_DONE);
+}
+
+/* A wrong length is looked for in all three buffers before any content; a new log refuses the marks of another by 2. */
+static void check_marks(void) {
+    memset(marks, 0, sizeof marks);
+    marks[CINDROLF_MARK_WORDS] = 9;
+    cindrolf_fresh(state, CINDROLF_STATE_WORDS, entries, CINDROLF_ENTRY_WORDS, 1);
+    cindrolf_become(state, CINDROLF_STATE_WORDS, entries, CINDROLF_ENTRY_WORDS, 0);
+    cindrolf_fetch(state, CINDROLF_STATE_WORDS, entries, CINDROLF_ENTRY_WORDS, 0);
+    check_mark_names();
+    check_marks_in_order();
+    static uint64_t before[CINDROLF_STATE_WORDS], stored[CINDROLF_ENTRY_WORDS];
+    memcpy(before, state, sizeof state);
+    memcpy(stored, entries, sizeof entries);
+    check_mark_limits();
+    check_damaged_marks();
+    expect("state words that marks changed", (uint64_t)(memcmp(before, state, sizeof state) != 0), 0);
+    expect("entries that marks changed", (uint64_t)(memcmp(stored, entries, sizeof entries) != 0), 0);
+    state[526] = 1;
+    expect("set on a damaged log", set_mark(BYTES), CINDROLF_REFUSED + CINDROLF_REFUSAL_NOT_WELL_FORMED);
+    refuse_marks(state, CINDROLF_STATE_WORDS, entries, CINDROLF_ENTRY_WORDS, marks, CINDROLF_MARK_WORDS - 1);
+    refuse_marks(state, CINDROLF_STATE_WORDS, entries, CINDROLF_ENTRY_WORDS, marks, CINDROLF_MARK_WORDS + 1);
+    refuse_marks(state, CINDROLF_STATE_WORDS, entries, CINDROLF_ENTRY_WORDS, NULL, 0);
+    refuse_marks(state, CINDROLF_STATE_WORDS - 1, entries, CINDROLF_ENTRY_WORDS, marks, CINDROLF_MARK_WORDS);
+    refuse_marks(state, CINDROLF_STATE_WORDS, entries, CINDROLF_ENTRY_WORDS - 1, marks, CINDROLF_MARK_WORDS);
+    cindrolf_fresh(state, CINDROLF_STATE_WORDS, entries, CINDROLF_ENTRY_WORDS, 1);
+    expect("old marks on a new log", drop_mark(WASH), CINDROLF_REFUSED + CINDROLF_REFUSAL_NOT_WELL_FORMED);
+}
+
 int main(void) {
     expect("version", cindrolf_version(), CINDROLF_VERSION);
 
@@ -248,5 +417,6 @@ int main(void) {
     check_places();
     check_advice();
     check_recovery();
+    check_marks();
     return wrong;
 }

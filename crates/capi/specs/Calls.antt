@@ -14,6 +14,7 @@ use Rattle.chain.specs.Steps.{Step}
 use Rattle.chain.specs.Operations.{Buffers, stepAnswer, afterStep, Result, freshChecks, freshAnswer, afterFresh}
 use Rattle.chain.specs.Operations.{readLedgerChecks, readLedgerAnswer, readLedgerPart, readChainAnswer, readChainOutput}
 use Rattle.chain.specs.Windows.{firstWindow}
+use Rattle.chain.specs.Marks.{setChecks, setAnswer, afterSet, dropChecks, dropAnswer, afterDrop, readMarkAnswer, readMarkOutput}
 use Rattle.chain.specs.Laws.Numbers.{NumbersBelow, step-numbers}
 use Rattle.fresh.specs.Fresh.{FreshResult}
 use Rattle.readers.specs.Locate.{partStart, Locates}
@@ -53,7 +54,24 @@ pub record WindowCall (n limit : ℕ) (b : Buffers) (answer found start : ℕ) :
   pub founds : found ≡ windowFound (firstWindow n limit b)
   pub starts : start ≡ windowStart (firstWindow n limit b)
 
--- Fresh and read ledger number no entry.
+-- Set and drop: the answer, and every word of the marks buffer afterwards.
+pub record MarkCall (a : Answer) (after : List ℕ) (r : ℕ) (marks : List ℕ) : Type 0 where
+  pub answers : r ≡ answerNumber a
+  pub mark-words : marks ≡ after
+
+abbrev pub SetMarkCall : ℕ → Buffers → List ℕ → ℕ → List ℕ → Type 0
+SetMarkCall name b ms = MarkCall (setAnswer name b ms) (afterSet name b ms)
+
+abbrev pub DropMarkCall : ℕ → Buffers → List ℕ → ℕ → List ℕ → Type 0
+DropMarkCall name b ms = MarkCall (dropAnswer name b ms) (afterDrop name b ms)
+
+-- Read at a mark: its answer and its count as two numbers, and every word of the output buffer afterwards.
+pub record ReadMarkCall (name : ℕ) (b : Buffers) (ms output : List ℕ) (answer count : ℕ) (after : List ℕ) : Type 0 where
+  pub answers : answer ≡ chainNumber (readMarkAnswer name b ms output)
+  pub counts : count ≡ chainCount (readMarkAnswer name b ms output)
+  pub output-words : after ≡ readMarkOutput name b ms output
+
+-- Fresh, read ledger, set and drop number no entry.
 numbers-none : (cs : List (Check Refusal)) → NumbersBelow (first cs Refused Done)
 numbers-none cs = at _ (outcome cs Refused Done)
   where
@@ -92,3 +110,22 @@ chain-called e o p q = record { answers = p ∙ ap chainNumber e; counts = q ∙
 pub window-called : {n limit : ℕ} {b : Buffers} {a : WindowAnswer} {r f i : ℕ} → a ≡ firstWindow n limit b → r ≡ windowNumber a → f ≡ windowFound a
     → i ≡ windowStart a → WindowCall n limit b r f i
 window-called e p q s = record { answers = p ∙ ap windowNumber e; founds = q ∙ ap windowFound e; starts = s ∙ ap windowStart e }
+
+module _ (name : ℕ) (b : Buffers) (ms : List ℕ) {a : Answer} where
+  pub set-small : a ≡ setAnswer name b ms → NumbersBelow a
+  unfolding setAnswer
+  set-small e = subst NumbersBelow (sym e) (numbers-none (setChecks name b ms))
+
+  pub drop-small : a ≡ dropAnswer name b ms → NumbersBelow a
+  unfolding dropAnswer
+  drop-small e = subst NumbersBelow (sym e) (numbers-none (dropChecks name b ms))
+
+  pub set-called : {r : ℕ} {after : List ℕ} → a ≡ setAnswer name b ms → after ≡ afterSet name b ms → r ≡ answerNumber a → SetMarkCall name b ms r after
+  set-called e o p = record { answers = p ∙ ap answerNumber e; mark-words = o }
+
+  pub drop-called : {r : ℕ} {after : List ℕ} → a ≡ dropAnswer name b ms → after ≡ afterDrop name b ms → r ≡ answerNumber a → DropMarkCall name b ms r after
+  drop-called e o p = record { answers = p ∙ ap answerNumber e; mark-words = o }
+
+pub read-mark-called : {name : ℕ} {b : Buffers} {ms output after : List ℕ} {a : ChainAnswer} {r n : ℕ} → a ≡ readMarkAnswer name b ms output
+    → after ≡ readMarkOutput name b ms output → r ≡ chainNumber a → n ≡ chainCount a → ReadMarkCall name b ms output r n after
+read-mark-called e o p q = record { answers = p ∙ ap chainNumber e; counts = q ∙ ap chainCount e; output-words = o }

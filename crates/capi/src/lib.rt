@@ -1,6 +1,7 @@
 // The log for callers in C, C++ and Rust. include/cindrolf.h declares the functions that are exported here.
 pub mod advice;
 pub mod log;
+pub mod mark;
 mod number;
 pub mod reading;
 pub mod step;

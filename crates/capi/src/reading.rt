@@ -22,7 +22,7 @@ pub struct ChainCount {
     pub count: u64,
 }
 
-fn chain_count(a: ChainAnswer) -> ChainCount
+pub fn chain_count(a: ChainAnswer) -> ChainCount
     ensures answer { λ r. ⌜ r .answer ≡ chainNumber a ⌝ }
     ensures count { λ r. ⌜ r .count ≡ chainCount a ⌝ }
 {

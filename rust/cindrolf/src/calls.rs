@@ -16,7 +16,7 @@
 //! null and valid for their lengths. A `&mut` slice is lent to nobody else meanwhile, so what the library changes
 //! overlaps nothing. Each block's comment adds what is special to it.
 
-use crate::{Advice, CloseLast, Error, Finish, LedgerNumber, Position, Progress, ReadingPlace, answer, raw};
+use crate::{Advice, CloseLast, Error, Finish, LedgerNumber, MarkName, Position, Progress, ReadingPlace, answer, raw};
 
 // An operation that changes both buffers, by the numbers that it takes and the answers that it can give.
 macro_rules! operation {
@@ -143,9 +143,14 @@ pub fn read_chain(state: &[u64], entries: &[u64], output: &mut [u64]) -> Result<
             output.len(),
         )
     };
+    words_read(read, output.len())
+}
+
+/// How many words a reading wrote to an output of this length.
+fn words_read(read: raw::ChainCount, room: usize) -> Result<usize, Error> {
     answer::done(read.answer)?;
     let count = read.count as usize;
-    if count <= output.len() { Ok(count) } else { Err(Error::UnknownAnswer(read.count)) }
+    if count <= room { Ok(count) } else { Err(Error::UnknownAnswer(read.count)) }
 }
 
 /// The start of the first window of the chain reading whose values come to more than the limit, or none. A window is
@@ -161,4 +166,62 @@ pub fn first_window(state: &[u64], entries: &[u64], length: u64, limit: u64) -> 
         1 => Ok(Some(ReadingPlace(window.start))),
         found => Err(Error::UnknownAnswer(found)),
     }
+}
+
+// A call that changes the marks, and only reads the log.
+macro_rules! on_marks {
+    ($(#[$doc:meta])* $name:ident, $raw:ident) => {
+        $(#[$doc])*
+        pub fn $name(state: &[u64], entries: &[u64], marks: &mut [u64], name: MarkName) -> Result<(), Error> {
+            // SAFETY: the marks alone are changed, and they are exclusive; the name is any number.
+            let number = unsafe {
+                raw::$raw(
+                    state.as_ptr(),
+                    state.len(),
+                    entries.as_ptr(),
+                    entries.len(),
+                    marks.as_mut_ptr(),
+                    marks.len(),
+                    name.word(),
+                )
+            };
+            answer::done(number)
+        }
+    };
+}
+
+on_marks! {
+    /// Keeps a mark of this name at the log's entry count, behind the marks that are kept.
+    set_mark, cindrolf_mark_set
+}
+
+on_marks! {
+    /// Drops the mark of this name. Those behind it move up.
+    drop_mark, cindrolf_mark_drop
+}
+
+/// Writes the entries up to the mark of this name to the front of the output buffer, each without its ledger number,
+/// and answers how many they are. The words after them stay.
+pub fn read_mark(
+    state: &[u64],
+    entries: &[u64],
+    marks: &[u64],
+    name: MarkName,
+    output: &mut [u64],
+) -> Result<usize, Error> {
+    // SAFETY: the output alone is changed, and it is exclusive; the answer is a struct of two numbers.
+    let read = unsafe {
+        raw::cindrolf_mark_read(
+            state.as_ptr(),
+            state.len(),
+            entries.as_ptr(),
+            entries.len(),
+            marks.as_ptr(),
+            marks.len(),
+            name.word(),
+            output.as_mut_ptr(),
+            output.len(),
+        )
+    };
+    words_read(read, output.len())
 }

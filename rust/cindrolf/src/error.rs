@@ -28,6 +28,8 @@ pub enum Error {
     UnknownAnswer(u64),
     /// The archive is of this version, and the crate is written for [`VERSION`](crate::VERSION). Nothing was called.
     OtherVersion(u64),
+    /// The text is no [`MarkName`](crate::MarkName): it hasn't 1 to 8 bytes, or one of them is zero. Nothing was called.
+    NoMarkName,
 }
 
 impl Error {
@@ -56,6 +58,7 @@ impl fmt::Display for Error {
             Error::OtherVersion(version) => {
                 write!(f, "the library has version {version}, and the crate is written for version {VERSION}")
             }
+            Error::NoMarkName => f.write_str("the name of a mark has 1 to 8 bytes, none of them zero"),
         }
     }
 }
@@ -100,10 +103,10 @@ macro_rules! refusals {
 }
 
 refusals! {
-    /// The state buffer hasn't 527 words, or the entry buffer hasn't 4,096.
+    /// The state buffer hasn't 527 words, the entry buffer hasn't 4,096, or the marks buffer hasn't 64.
     WrongLength = 1, "a buffer has the wrong length";
-    /// The buffers hold no log.
-    NotWellFormed = 2, "the buffers hold no well-formed log";
+    /// The buffers hold no log, or the marks are none of this log.
+    NotWellFormed = 2, "the buffers hold no well-formed log, or no marks of it";
     /// The client number isn't below the client count.
     UnknownClient = 3, "the client number is not below the client count";
     /// The client is the named leader: it can't be named again, and it can't abdicate.
@@ -140,10 +143,16 @@ refusals! {
     ScoreTooHigh = 19, "a score is above 372";
     /// The window's length is 0 or above 256.
     WindowLength = 20, "the window's length is not 1 to 256";
+    /// A mark of this name is kept already, or the name is all zero.
+    MarkNameTaken = 21, "a mark of this name is kept already, or the name is all zero";
+    /// All 32 marks are in use.
+    MarksFull = 22, "32 marks are kept";
+    /// No mark of this name is kept.
+    MarkNotKept = 23, "no mark of this name is kept";
 }
 
 impl Refusal {
-    /// The refusal's number, 1 to 20.
+    /// The refusal's number, 1 to 23.
     pub const fn number(self) -> u64 {
         self as u64
     }
@@ -163,7 +172,7 @@ mod tests {
 
     #[test]
     fn numbers() {
-        assert_eq!(Refusal::ALL.len(), 20);
+        assert_eq!(Refusal::ALL.len(), 23);
         for (number, &refusal) in (1..).zip(Refusal::ALL) {
             assert_eq!(refusal.number(), number);
             assert_eq!(Refusal::from_number(number), Some(refusal));
@@ -178,5 +187,6 @@ mod tests {
         let other = Error::OtherVersion(1).to_string();
         assert_eq!(other, "the library has version 1, and the crate is written for version 3");
         assert!(Error::UnknownAnswer(300).to_string().starts_with("the library answered 300, "));
+        assert_eq!(Error::NoMarkName.to_string(), "the name of a mark has 1 to 8 bytes, none of them zero");
     }
 }

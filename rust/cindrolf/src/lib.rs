@@ -87,11 +87,50 @@
 //! assert_eq!(log.write_scores(0, &[40, 373]), Err(Error::Refused(Refusal::ScoreTooHigh)));
 //! # Ok::<(), Error>(())
 //! ```
+//!
+//! A named point of a run, to return to: what was stored before the wash. Marks are kept in a third buffer, of
+//! [`MARK_WORDS`] words, in which zeros keep none. Persist it with the log, or after it: a mark with more entries than
+//! the log has is refused.
+//!
+//! ```
+//! use cindrolf::{Error, Log, MarkName, Refusal};
+//!
+//! let mut log = Log::fresh(1)?;
+//! log.become_leader(0)?;
+//! log.fetch(0)?;
+//! log.create(0)?;
+//! let _ = log.append(0)?;
+//! log.write(0, 7)?;
+//! log.write(0, 8)?;
+//!
+//! let mut marks = [0; cindrolf::MARK_WORDS];
+//! let before_the_wash: MarkName = "pre-wash".parse()?;
+//! log.set_mark(&mut marks, before_the_wash)?;
+//! log.write(0, 9)?;
+//!
+//! let mut output = [0; cindrolf::ENTRY_WORDS];
+//! let count = log.read_mark(&marks, before_the_wash, &mut output)?;
+//! assert_eq!(output[..count], [7, 8]);
+//! assert_eq!(log.set_mark(&mut marks, before_the_wash), Err(Error::Refused(Refusal::MarkNameTaken)));
+//!
+//! // To move a mark, it is dropped and set again.
+//! log.drop_mark(&mut marks, before_the_wash)?;
+//! log.set_mark(&mut marks, before_the_wash)?;
+//! assert_eq!(log.read_mark(&marks, before_the_wash, &mut output)?, 3);
+//!
+//! // A new log takes no marks of an old one. They are cleared by filling them with zeros.
+//! let log = Log::fresh(1)?;
+//! assert_eq!(log.drop_mark(&mut marks, before_the_wash), Err(Error::Refused(Refusal::NotWellFormed)));
+//! marks.fill(0);
+//! log.set_mark(&mut marks, before_the_wash)?;
+//! # Ok::<(), Error>(())
+//! ```
 
 mod answer;
 pub mod calls;
 mod error;
 mod log;
+mod mark;
 #[doc(hidden)]
 pub mod raw;
 mod version;
@@ -100,6 +139,7 @@ mod view;
 pub use answer::{Advice, CloseLast, EntryNumber, Finish, LedgerNumber, LedgerPlace, Position, Progress, ReadingPlace};
 pub use error::{Error, Refusal};
 pub use log::{Log, LogMut, LogRef};
+pub use mark::MarkName;
 pub use version::{VERSION, check_version};
 pub use view::{Client, Entry, Ledger, ListPlace, Remembered, Stage, View};
 
@@ -115,10 +155,14 @@ pub const MAX_VALUE: u64 = (1 << 52) - 1;
 pub const SCORES_LIMIT: usize = 4000;
 /// The highest score.
 pub const HIGHEST_SCORE: u16 = 372;
+/// Words in a marks buffer.
+pub const MARK_WORDS: usize = 64;
+/// The most marks that a marks buffer keeps.
+pub const MARKS_LIMIT: usize = 32;
 /// The most words of a window.
 pub const LONGEST_WINDOW: u64 = 256;
 
-/// The ledger number in an entry's word. The words that read chain writes have none.
+/// The ledger number in an entry's word. The words that read chain and a reading at a mark write have none.
 pub const fn ledger_of(word: u64) -> Option<LedgerNumber> {
     match word >> 56 {
         0 => None,

@@ -1,7 +1,7 @@
 //! A log that owns its buffers, and logs that borrow them.
 
 use crate::{
-    Advice, CloseLast, ENTRY_WORDS, Error, Finish, LedgerNumber, Position, Progress, ReadingPlace, Refusal,
+    Advice, CloseLast, ENTRY_WORDS, Error, Finish, LedgerNumber, MarkName, Position, Progress, ReadingPlace, Refusal,
     STATE_WORDS, View, calls, check_version,
 };
 
@@ -206,6 +206,24 @@ impl<'a> LogRef<'a> {
     pub fn first_window(&self, length: u64, limit: u64) -> Result<Option<ReadingPlace>, Error> {
         calls::first_window(self.state, self.entries, length, limit)
     }
+
+    /// Keeps a mark of this name at the log's entry count, behind the marks that are kept. The marks buffer has
+    /// [`MARK_WORDS`](crate::MARK_WORDS) words; of any other a refusal says so.
+    pub fn set_mark(&self, marks: &mut [u64], name: MarkName) -> Result<(), Error> {
+        calls::set_mark(self.state, self.entries, marks, name)
+    }
+
+    /// Drops the mark of this name. Those behind it move up.
+    pub fn drop_mark(&self, marks: &mut [u64], name: MarkName) -> Result<(), Error> {
+        calls::drop_mark(self.state, self.entries, marks, name)
+    }
+
+    /// Writes the entries up to the mark of this name to the front of the output, each without its ledger number, and
+    /// answers how many they are. At a mark that was set on this log since it began fresh, this is what
+    /// [`read_chain`](Self::read_chain) gave then, whatever steps came after. [`ENTRY_WORDS`] words are enough.
+    pub fn read_mark(&self, marks: &[u64], name: MarkName, output: &mut [u64]) -> Result<usize, Error> {
+        calls::read_mark(self.state, self.entries, marks, name, output)
+    }
 }
 
 macro_rules! operations {
@@ -309,6 +327,23 @@ macro_rules! operations {
             /// window is `length` words of the reading in a row, 1 to [`LONGEST_WINDOW`](crate::LONGEST_WINDOW).
             pub fn first_window(&self, length: u64, limit: u64) -> Result<Option<ReadingPlace>, Error> {
                 self.as_ref().first_window(length, limit)
+            }
+
+            /// Keeps a mark of this name at the log's entry count, behind the marks that are kept. The marks buffer has
+            /// [`MARK_WORDS`](crate::MARK_WORDS) words; of any other a refusal says so.
+            pub fn set_mark(&self, marks: &mut [u64], name: MarkName) -> Result<(), Error> {
+                self.as_ref().set_mark(marks, name)
+            }
+
+            /// Drops the mark of this name. Those behind it move up.
+            pub fn drop_mark(&self, marks: &mut [u64], name: MarkName) -> Result<(), Error> {
+                self.as_ref().drop_mark(marks, name)
+            }
+
+            /// Writes the entries up to the mark of this name to the front of the output, each without its ledger
+            /// number, and answers how many they are.
+            pub fn read_mark(&self, marks: &[u64], name: MarkName, output: &mut [u64]) -> Result<usize, Error> {
+                self.as_ref().read_mark(marks, name, output)
             }
         }
     )*};

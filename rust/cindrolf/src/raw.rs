@@ -92,4 +92,33 @@ unsafe extern "C" {
         window: u64,
         limit: u64,
     ) -> WindowFound;
+    pub fn cindrolf_mark_set(
+        state: *const u64,
+        state_len: usize,
+        entries: *const u64,
+        entries_len: usize,
+        marks: *mut u64,
+        marks_len: usize,
+        name: u64,
+    ) -> u64;
+    pub fn cindrolf_mark_drop(
+        state: *const u64,
+        state_len: usize,
+        entries: *const u64,
+        entries_len: usize,
+        marks: *mut u64,
+        marks_len: usize,
+        name: u64,
+    ) -> u64;
+    pub fn cindrolf_mark_read(
+        state: *const u64,
+        state_len: usize,
+        entries: *const u64,
+        entries_len: usize,
+        marks: *const u64,
+        marks_len: usize,
+        name: u64,
+        output: *mut u64,
+        output_len: usize,
+    ) -> ChainCount;
 }

@@ -1,9 +1,12 @@
 //! The reference's examples through the crate, on the proved library.
 
 use cindrolf::{
-    CloseLast, ENTRY_WORDS, EntryNumber, Error, Finish, LedgerNumber, LedgerPlace, Log, LogMut, Position, Progress,
+    CloseLast, ENTRY_WORDS, EntryNumber, Error, Finish, LedgerNumber, LedgerPlace, Log, LogMut, LogRef, MarkName,
+    Position, Progress,
 };
-use cindrolf::{HIGHEST_SCORE, Refusal, SCORES_LIMIT, STATE_WORDS, Stage, calls, ledger_of, value_of};
+use cindrolf::{
+    HIGHEST_SCORE, MARK_WORDS, MARKS_LIMIT, Refusal, SCORES_LIMIT, STATE_WORDS, Stage, calls, ledger_of, value_of,
+};
 
 fn refused<T>(refusal: Refusal) -> Result<T, Error> {
     Err(Error::Refused(refusal))
@@ -184,6 +187,63 @@ fn refused_scores() {
         calls::write_scores(&mut [0; STATE_WORDS], &mut [0; ENTRY_WORDS], 3, &[]),
         refused(Refusal::NotWellFormed)
     );
+}
+
+fn mark(text: &str) -> MarkName {
+    text.parse().unwrap()
+}
+
+// Marks at 0, 1 and 2 entries, the second dropped and set again: it stands last then, and has the new count.
+#[test]
+fn marks() {
+    let mut log = writing(1);
+    let (mut kept, mut output) = ([0; MARK_WORDS], [9; 3]);
+    assert_eq!(log.set_mark(&mut kept, mark("start")), Ok(()));
+    log.write(0, 7).unwrap();
+    assert_eq!(log.set_mark(&mut kept, mark("pre-wash")), Ok(()));
+    log.write(0, 8).unwrap();
+    assert_eq!(log.as_mut().set_mark(&mut kept, MarkName([0xFF; 8])), Ok(()));
+    let words = [0x7374_6172_7400_0000, 0, 0x7072_652D_7761_7368, 1 << 51, u64::MAX, 2 << 51, 0];
+    assert_eq!(kept[..7], words);
+    assert_eq!(log.read_mark(&kept, mark("pre-wash"), &mut output), Ok(1));
+    assert_eq!(output, [7, 9, 9]);
+    assert_eq!(log.read_mark(&kept, mark("pre-wash"), &mut []), refused(Refusal::OutputTooShort));
+    assert_eq!(log.as_ref().read_mark(&kept, mark("start"), &mut []), Ok(0));
+
+    assert_eq!(log.set_mark(&mut kept, mark("pre-wash")), refused(Refusal::MarkNameTaken));
+    assert_eq!(log.as_ref().drop_mark(&mut kept, mark("pre-wash")), Ok(()));
+    assert_eq!(kept[2..5], [u64::MAX, 2 << 51, 0]);
+    assert_eq!(log.drop_mark(&mut kept, mark("pre-wash")), refused(Refusal::MarkNotKept));
+    assert_eq!(log.read_mark(&kept, mark("pre-wash"), &mut []), refused(Refusal::MarkNotKept));
+    assert_eq!(log.set_mark(&mut kept, mark("pre-wash")), Ok(()));
+    assert_eq!(kept[4..7], [0x7072_652D_7761_7368, 2 << 51, 0]);
+    assert_eq!(log.as_mut().read_mark(&kept, mark("pre-wash"), &mut output), Ok(2));
+    assert_eq!(output, [7, 8, 9]);
+}
+
+// Name 0 is never kept, a name that is taken is told before the want of room, and lengths before any content.
+#[test]
+fn refused_marks() {
+    let (log, zero) = (writing(1), MarkName([0; 8]));
+    let mut kept = [0; MARK_WORDS];
+    for name in 1..=MARKS_LIMIT as u64 {
+        assert_eq!(log.set_mark(&mut kept, zero), refused(Refusal::MarkNameTaken));
+        assert_eq!(log.drop_mark(&mut kept, zero), refused(Refusal::MarkNotKept));
+        assert_eq!(log.read_mark(&kept, zero, &mut []), refused(Refusal::MarkNotKept));
+        assert_eq!(log.set_mark(&mut kept, MarkName::from_word(name)), Ok(()));
+    }
+    let before = kept;
+    assert_eq!(log.set_mark(&mut kept, mark("more")), refused(Refusal::MarksFull));
+    assert_eq!(log.set_mark(&mut kept, MarkName::from_word(32)), refused(Refusal::MarkNameTaken));
+    assert_eq!(log.set_mark(&mut kept, zero), refused(Refusal::MarkNameTaken));
+    assert_eq!(log.set_mark(&mut kept[1..], zero), refused(Refusal::WrongLength));
+    assert_eq!(log.drop_mark(&mut [], zero), refused(Refusal::WrongLength));
+    assert_eq!(calls::read_mark(&[], &[], &kept, zero, &mut []), refused(Refusal::WrongLength));
+    assert_eq!(log.drop_mark(&mut [1; MARK_WORDS], zero), refused(Refusal::NotWellFormed));
+    let empty = LogRef::new(&[0; STATE_WORDS], &[0; ENTRY_WORDS]);
+    assert_eq!(empty.read_mark(&kept, zero, &mut []), refused(Refusal::NotWellFormed));
+    assert_eq!(empty.set_mark(&mut kept[1..], zero), refused(Refusal::WrongLength));
+    assert_eq!(kept, before);
 }
 
 // Two leaders race: each answer that is neither done nor a refusal.

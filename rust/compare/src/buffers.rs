@@ -1,6 +1,7 @@
 //! Buffers of any kind: well formed but unreachable, nearly well formed, random, and of wrong lengths.
 
 use crate::call::{Buffers, Call, Subject};
+use crate::marks::{self, any_marks};
 use crate::shrink;
 use crate::sides::Sides;
 use model::histories::{any_client, with_any_input};
@@ -8,13 +9,19 @@ use model::layout::{Client, ENTRY_WORDS, Entry, Head, Ledger, NONE, Place, STATE
 use model::random::Random;
 use model::{Step, words};
 
-/// Compares every operation on one pair of buffers, each several times. The error is a report.
+/// Compares every operation on one log and its marks, each several times. The error is a report.
 pub fn compare(subject: Subject, sides: &mut Sides, random: &mut Random) -> Result<(), String> {
     let mut buffers = any_buffers(random);
+    buffers.marks = any_marks(random, head(&buffers).entry_count);
     sides.set(&buffers);
     for call in calls(random, &buffers) {
-        if call == Call::ReadChain {
-            buffers.output = any_output(random, &buffers);
+        let reading = match call {
+            Call::ReadChain => Some(reading_length(&buffers)),
+            Call::ReadMark(name) => Some(mark_count(&buffers, name)),
+            _ => None,
+        };
+        if let Some(length) = reading {
+            buffers.output = any_output(random, length);
             sides.set(&buffers);
         }
         match sides.call(call) {
@@ -28,7 +35,7 @@ pub fn compare(subject: Subject, sides: &mut Sides, random: &mut Random) -> Resu
 
 /// The calls to try: each step by a client at any stage and by one at the step's own stage, then the others.
 fn calls(random: &mut Random, buffers: &Buffers) -> Vec<Call> {
-    let head = Head::load(buffers.state.first().copied().unwrap_or(0)).0;
+    let head = head(buffers);
     let mut calls = vec![Call::WellFormed, Call::ReadChain, Call::ReadChain];
     for kind in Step::ALL {
         let step = with_any_input(random, kind);
@@ -50,7 +57,12 @@ fn calls(random: &mut Random, buffers: &Buffers) -> Vec<Call> {
         calls.push(Call::Fresh(any_count(random)));
         calls.push(any_window(random, &reading));
     }
+    calls.extend(marks::calls(random, &buffers.marks));
     calls
+}
+
+fn head(buffers: &Buffers) -> Head {
+    Head::load(buffers.state.first().copied().unwrap_or(0)).0
 }
 
 /// A window's length and a limit: often what the greatest window of this reading comes to, which is not over, or one less.
@@ -113,9 +125,8 @@ fn any_count(random: &mut Random) -> u64 {
     }
 }
 
-/// An output buffer around the length of the reading, filled with words that show a stray store.
-fn any_output(random: &mut Random, buffers: &Buffers) -> Vec<u64> {
-    let reading = reading_length(buffers);
+/// An output buffer around the length of a reading, filled with words that show a stray store.
+fn any_output(random: &mut Random, reading: usize) -> Vec<u64> {
     let length = match random.below(6) {
         0 => 0,
         1 => reading.saturating_sub(1),
@@ -125,6 +136,11 @@ fn any_output(random: &mut Random, buffers: &Buffers) -> Vec<u64> {
         _ => reading,
     };
     (0..length as u64).map(|index| !index).collect()
+}
+
+/// The entry count of the mark of this name, if the buffer has one.
+fn mark_count(buffers: &Buffers, name: u64) -> usize {
+    buffers.marks.chunks_exact(2).find(|pair| pair[0] == name).map_or(0, |pair| (pair[1] >> 51) as usize)
 }
 
 /// The length of the chain reading, where the buffers hold a log.
@@ -155,7 +171,7 @@ pub fn any_buffers(random: &mut Random) -> Buffers {
 fn random_words(random: &mut Random) -> Buffers {
     let state = (0..STATE_WORDS).map(|_| random.word()).collect();
     let entries = (0..ENTRY_WORDS).map(|_| random.word()).collect();
-    Buffers { state, entries, output: vec![] }
+    Buffers { state, entries, ..Buffers::default() }
 }
 
 fn wrong_length(random: &mut Random, buffers: &mut Buffers) {
@@ -239,7 +255,7 @@ pub fn well_formed(random: &mut Random) -> Buffers {
         *word = Place { ledger: random.between(1, next_ledger - 1) }.word();
     }
     fill_entries(random, &head, &mut entries);
-    Buffers { state, entries, output: vec![] }
+    Buffers { state, entries, ..Buffers::default() }
 }
 
 /// Open, closed, closed by a finish or recovering; all but the last with a fence or without.

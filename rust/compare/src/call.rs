@@ -1,36 +1,40 @@
 //! One call of an operation, as the library and the model take it.
 
-use model::{Answer, Step, words};
+use model::{Answer, Step, marks, words};
 use std::fmt;
 use std::hint::black_box;
 use std::ops::Range;
 
-/// The three buffers of a call.
+/// The buffers of a call.
 #[derive(Clone, Debug, Default, PartialEq, Eq)]
 pub struct Buffers {
     /// The state buffer.
     pub state: Vec<u64>,
     /// The entry buffer.
     pub entries: Vec<u64>,
-    /// The output buffer of read chain.
+    /// The marks buffer.
+    pub marks: Vec<u64>,
+    /// The output buffer of read chain and of reading at a mark.
     pub output: Vec<u64>,
 }
 
 impl Buffers {
     /// The buffers as a call is lent them.
     pub fn lend(&mut self) -> Lent<'_> {
-        Lent { state: &mut self.state, entries: &mut self.entries, output: &mut self.output }
+        Lent { state: &mut self.state, entries: &mut self.entries, marks: &mut self.marks, output: &mut self.output }
     }
 }
 
-/// The three buffers as a call is lent them.
+/// The buffers as a call is lent them.
 #[derive(Debug, PartialEq, Eq)]
 pub struct Lent<'a> {
     /// The state buffer.
     pub state: &'a mut [u64],
     /// The entry buffer.
     pub entries: &'a mut [u64],
-    /// The output buffer of read chain.
+    /// The marks buffer.
+    pub marks: &'a mut [u64],
+    /// The output buffer of read chain and of reading at a mark.
     pub output: &'a mut [u64],
 }
 
@@ -51,6 +55,12 @@ pub enum Call {
     ReadChain,
     /// The search for a window, with its length and the limit.
     FirstWindow(u64, u64),
+    /// Setting a mark, with its name.
+    SetMark(u64),
+    /// Dropping a mark, with its name.
+    DropMark(u64),
+    /// Reading at a mark, with its name.
+    ReadMark(u64),
 }
 
 /// As a report has it: a long list of scores by its ends and its length.
@@ -68,7 +78,7 @@ impl fmt::Display for Call {
 /// What a call gave back.
 #[derive(Clone, Debug, PartialEq, Eq)]
 pub enum Outcome {
-    /// The answer of fresh or a step, or a refusal of the adviser.
+    /// The answer of fresh or a step, of setting or dropping a mark, or a refusal of the adviser.
     Answer(Answer),
     /// The check's verdict.
     WellFormed(bool),
@@ -83,7 +93,7 @@ pub enum Outcome {
         /// How many words it has.
         count: u64,
     },
-    /// Read chain's answer and its count, 0 on a refusal.
+    /// The answer of read chain or of reading at a mark, and its count, 0 on a refusal.
     Count {
         /// Done or a refusal.
         answer: Answer,
@@ -128,7 +138,7 @@ pub type Subject = fn(Call, &mut Lent) -> Outcome;
 
 /// The model's side.
 pub fn model(call: Call, lent: &mut Lent) -> Outcome {
-    let Lent { state, entries, output } = lent;
+    let Lent { state, entries, marks, output } = lent;
     match call {
         Call::Fresh(count) => Outcome::Answer(words::fresh(state, entries, count)),
         Call::Step(client, step) => Outcome::Answer(words::step(state, entries, client, step)),
@@ -139,13 +149,20 @@ pub fn model(call: Call, lent: &mut Lent) -> Outcome {
             Ok(part) => model_part(part),
             Err(number) => Outcome::Part { answer: Answer::Refused(number), start: 0, count: 0 },
         },
-        Call::ReadChain => match words::read_chain(state, entries, output) {
-            Ok(count) => Outcome::Count { answer: Answer::Done, count: count as u64 },
-            Err(number) => Outcome::Count { answer: Answer::Refused(number), count: 0 },
-        },
+        Call::ReadChain => model_count(words::read_chain(state, entries, output)),
         Call::FirstWindow(length, limit) => {
             window(words::first_window(state, entries, length, limit).map_err(Answer::Refused))
         }
+        Call::SetMark(name) => Outcome::Answer(marks::set(state, entries, marks, name)),
+        Call::DropMark(name) => Outcome::Answer(marks::drop(state, entries, marks, name)),
+        Call::ReadMark(name) => model_count(marks::read(state, entries, marks, name, output)),
+    }
+}
+
+fn model_count(given: Result<usize, u64>) -> Outcome {
+    match given {
+        Ok(count) => Outcome::Count { answer: Answer::Done, count: count as u64 },
+        Err(number) => Outcome::Count { answer: Answer::Refused(number), count: 0 },
     }
 }
 
@@ -163,17 +180,24 @@ fn model_part(part: Range<usize>) -> Outcome {
 
 /// The library's side, through the crate for controllers.
 pub fn library(call: Call, lent: &mut Lent) -> Outcome {
-    use cindrolf::calls;
-    let Lent { state, entries, .. } = lent;
+    use cindrolf::{MarkName, calls};
+    let Lent { state, entries, marks, .. } = lent;
     match call {
-        Call::Fresh(count) => Outcome::Answer(calls::fresh(state, entries, count).map_or_else(failed, done)),
+        Call::Fresh(count) => accepted(calls::fresh(state, entries, count)),
         Call::Step(client, step) => Outcome::Answer(library_step(state, entries, client, step)),
         Call::WellFormed => Outcome::WellFormed(calls::well_formed(state, entries)),
         Call::Advise(client) => library_advice(state, entries, client),
         Call::ReadLedger(ledger) => library_ledger(lent, ledger),
         Call::ReadChain => library_chain(lent),
         Call::FirstWindow(length, limit) => library_window(lent, length, limit),
+        Call::SetMark(name) => accepted(calls::set_mark(state, entries, marks, MarkName::from_word(name))),
+        Call::DropMark(name) => accepted(calls::drop_mark(state, entries, marks, MarkName::from_word(name))),
+        Call::ReadMark(name) => library_mark(lent, name),
     }
+}
+
+fn accepted(given: Result<(), cindrolf::Error>) -> Outcome {
+    Outcome::Answer(given.map_or_else(failed, done))
 }
 
 fn library_advice(state: &[u64], entries: &[u64], client: u64) -> Outcome {
@@ -216,7 +240,7 @@ fn library_ledger(lent: &Lent, ledger: u64) -> Outcome {
 // The second reading writes the same words as the first.
 fn library_chain(lent: &mut Lent) -> Outcome {
     use cindrolf::{calls, raw};
-    let Lent { state, entries, output } = lent;
+    let Lent { state, entries, output, .. } = lent;
     // SAFETY: the slices are valid for their lengths, and the output, which alone is changed, is exclusive.
     let given = unsafe {
         raw::cindrolf_read_chain(
@@ -228,8 +252,33 @@ fn library_chain(lent: &mut Lent) -> Outcome {
             output.len(),
         )
     };
+    library_count(given, calls::read_chain(state, entries, output))
+}
+
+// As for read chain.
+fn library_mark(lent: &mut Lent, name: u64) -> Outcome {
+    use cindrolf::{MarkName, calls, raw};
+    let Lent { state, entries, marks, output } = lent;
+    // SAFETY: the slices are valid for their lengths, and the output, which alone is changed, is exclusive.
+    let given = unsafe {
+        raw::cindrolf_mark_read(
+            state.as_ptr(),
+            state.len(),
+            entries.as_ptr(),
+            entries.len(),
+            marks.as_ptr(),
+            marks.len(),
+            name,
+            output.as_mut_ptr(),
+            output.len(),
+        )
+    };
+    library_count(given, calls::read_mark(state, entries, marks, MarkName::from_word(name), output))
+}
+
+fn library_count(given: cindrolf::raw::ChainCount, handed_on: Result<usize, cindrolf::Error>) -> Outcome {
     let outcome = Outcome::Count { answer: numbered(given.answer), count: given.count };
-    let handed_on = match calls::read_chain(state, entries, output) {
+    let handed_on = match handed_on {
         Ok(count) => Outcome::Count { answer: Answer::Done, count: count as u64 },
         Err(error) => Outcome::Count { answer: failed(error), count: given.count },
     };
@@ -252,7 +301,7 @@ fn library_window(lent: &Lent, length: u64, limit: u64) -> Outcome {
 fn numbered(number: u64) -> Answer {
     match number {
         0 => Answer::Done,
-        257..=276 => Answer::Refused(number - 256),
+        257..=279 => Answer::Refused(number - 256),
         _ => Answer::Refused(u64::MAX),
     }
 }

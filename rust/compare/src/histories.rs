@@ -6,6 +6,7 @@ use crate::shrink::{shorten, with_fewer_scores};
 use crate::sides::Sides;
 use model::histories::{Profile, any_client};
 use model::layout::{ENTRY_WORDS, STATE_WORDS};
+use model::marks::{LIMIT, MARK_WORDS};
 use model::random::Random;
 use model::source::{Source, Taken};
 use model::{Answer, Step};
@@ -27,6 +28,8 @@ struct History {
 struct Run<'a> {
     sides: &'a mut Sides,
     source: Source,
+    /// The marks that are kept, each with the chain reading when it was set.
+    marks: Vec<(u64, Vec<u64>)>,
     at_limit: u64,
 }
 
@@ -43,6 +46,7 @@ pub fn compare(subject: Subject, sides: &mut Sides, random: &mut Random) -> Resu
             2 => Call::ReadChain,
             3 => any_window(random, &run.source.chain()),
             4 | 5 => Call::Advise(any_client(random, history.client_count)),
+            6..=9 => any_mark_call(random),
             _ => {
                 let (client, step) = profile.next(random, &run.source);
                 Call::Step(client, step)
@@ -59,12 +63,23 @@ pub fn compare(subject: Subject, sides: &mut Sides, random: &mut Random) -> Resu
     Ok(())
 }
 
+/// A call by one of so few names that most are kept sooner or later, or by name 0.
+fn any_mark_call(random: &mut Random) -> Call {
+    let name = random.below(LIMIT as u64 + 8);
+    match random.below(10) {
+        0 => Call::DropMark(name),
+        1..=4 => Call::ReadMark(name),
+        _ => Call::SetMark(name),
+    }
+}
+
 impl<'a> Run<'a> {
     fn start(sides: &'a mut Sides, client_count: u64) -> Result<Self, String> {
         let output = (0..ENTRY_WORDS as u64).map(|index| !index).collect();
-        sides.set(&Buffers { state: vec![u64::MAX; STATE_WORDS], entries: vec![5; ENTRY_WORDS], output });
+        let (state, entries) = (vec![u64::MAX; STATE_WORDS], vec![5; ENTRY_WORDS]);
+        sides.set(&Buffers { state, entries, marks: vec![0; MARK_WORDS], output });
         sides.call(Call::Fresh(client_count)).map_err(|difference| difference.to_string())?;
-        Ok(Run { sides, source: Source::init(client_count), at_limit: 0 })
+        Ok(Run { sides, source: Source::init(client_count), marks: vec![], at_limit: 0 })
     }
 
     fn take(&mut self, call: Call) -> Result<(), String> {
@@ -91,12 +106,50 @@ impl<'a> Run<'a> {
             (Call::FirstWindow(length, _), _) => {
                 outcome.answer() == Some(Answer::Refused(20)) && !(1..=256).contains(&length)
             }
+            (Call::SetMark(name), outcome) => outcome.answer() == Some(self.set_mark(name)),
+            (Call::DropMark(name), outcome) => outcome.answer() == Some(self.drop_mark(name)),
+            (Call::ReadMark(name), Outcome::Count { answer, count }) => self.mark_reading_agrees(name, *answer, *count),
             (_, outcome) => *outcome == Outcome::WellFormed(true),
         };
         if agrees {
             Ok(())
         } else {
             Err(format!("{call}: the library gives {outcome:?}, LedgerChaining says otherwise\n"))
+        }
+    }
+
+    fn kept(&self, name: u64) -> Option<usize> {
+        self.marks.iter().position(|(kept, _)| *kept == name)
+    }
+
+    fn set_mark(&mut self, name: u64) -> Answer {
+        match self.marks.len() {
+            _ if name == 0 || self.kept(name).is_some() => Answer::Refused(21),
+            LIMIT => Answer::Refused(22),
+            _ => {
+                self.marks.push((name, self.source.chain()));
+                Answer::Done
+            }
+        }
+    }
+
+    fn drop_mark(&mut self, name: u64) -> Answer {
+        match self.kept(name) {
+            Some(place) => {
+                self.marks.remove(place);
+                Answer::Done
+            }
+            None => Answer::Refused(23),
+        }
+    }
+
+    /// Whatever steps came since, a reading at a mark is the chain reading as it was when the mark was last set.
+    fn mark_reading_agrees(&self, name: u64, answer: Answer, count: u64) -> bool {
+        match self.kept(name) {
+            Some(place) => {
+                answer == Answer::Done && self.sides.buffers().output[..count as usize] == self.marks[place].1
+            }
+            None => answer == Answer::Refused(23),
         }
     }
 

@@ -5,6 +5,7 @@ pub mod buffers;
 pub mod call;
 pub mod histories;
 pub mod logs;
+pub mod marks;
 pub mod shrink;
 pub mod sides;
 pub mod sweep;

@@ -1,7 +1,8 @@
 //! The logs whose every single-bit change is tried.
 
 use crate::call::{Buffers, Call};
-use model::layout::{ENTRY_WORDS, STATE_WORDS};
+use model::layout::{ENTRY_WORDS, Head, STATE_WORDS};
+use model::marks::{self, LIMIT, MARK_WORDS, Mark};
 use model::{Answer, Step, words};
 
 /// A log, and the step that is tried on each change of it.
@@ -17,7 +18,15 @@ pub struct Named {
 fn fresh(client_count: u64) -> Buffers {
     let (mut state, mut entries) = (vec![0; STATE_WORDS], vec![0; ENTRY_WORDS]);
     assert_eq!(words::fresh(&mut state, &mut entries, client_count), Answer::Done);
-    Buffers { state, entries, output: vec![] }
+    Buffers { state, entries, marks: vec![0; MARK_WORDS], output: vec![] }
+}
+
+/// The log with so many marks, whose names are 1, 2 and so on, spread over its entries.
+fn marked(mut log: Buffers, count: u64) -> Buffers {
+    let entry_count = Head::load(log.state[0]).0.entry_count;
+    let at = |name: u64| Mark { name, count: entry_count * name / count };
+    log.marks = marks::buffer(&(1..=count).map(at).collect::<Vec<_>>());
+    log
 }
 
 fn take(log: &mut Buffers, client: u64, steps: &[Step]) {
@@ -61,12 +70,13 @@ pub fn chain(client_count: u64, ledgers: u64, entries: u64) -> Buffers {
     log
 }
 
-/// Fresh, one ledger, mid-handover and full.
+/// Fresh, one ledger, mid-handover and full; with no mark, one, three and as many as there may be.
 pub fn all() -> Vec<Named> {
+    let full = chain(16, 255, ENTRY_WORDS as u64);
     vec![
         Named { name: "fresh", buffers: fresh(3), step: Call::Step(0, Step::Become) },
-        Named { name: "one ledger", buffers: one_ledger(), step: Call::Step(0, Step::Write(9)) },
-        Named { name: "mid-handover", buffers: handover(), step: Call::Step(1, Step::CloseLast) },
-        Named { name: "full", buffers: chain(16, 255, ENTRY_WORDS as u64), step: Call::Step(0, Step::CloseOwn) },
+        Named { name: "one ledger", buffers: marked(one_ledger(), 1), step: Call::Step(0, Step::Write(9)) },
+        Named { name: "mid-handover", buffers: marked(handover(), 3), step: Call::Step(1, Step::CloseLast) },
+        Named { name: "full", buffers: marked(full, LIMIT as u64), step: Call::Step(0, Step::CloseOwn) },
     ]
 }

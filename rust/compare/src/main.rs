@@ -12,7 +12,7 @@ Compares the proved library with the model: every call on both, then the answers
   --seed N    the seed of the random calls (default 1)
   --calls N   how many random calls, half of them in histories from fresh logs, half on buffers of any kind
               (default 1000000)
-  --no-sweep  without every single-bit change of four logs
+  --no-sweep  without every single-bit change of four logs and of their marks
   --help      this text
 
 A difference is printed with the smallest case found that shows it, and the exit status is 1.";
@@ -61,6 +61,9 @@ fn run(options: &Options, sides: &mut Sides) -> Result<(), String> {
     let mut progress = Progress { start: Instant::now(), last: Duration::ZERO };
     for log in logs::all() {
         sweep::undamaged(call::library, sides, &log)?;
+        if options.sweep {
+            sweep::mark_changes(call::library, sides, &log)?;
+        }
         let bits = if options.sweep { sweep::bits(&log) } else { 0 };
         for start in (0..bits).step_by(4096) {
             sweep::changes(call::library, sides, &log, start..bits.min(start + 4096))?;

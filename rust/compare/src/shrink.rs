@@ -51,7 +51,7 @@ pub fn difference(subject: Subject, call: Call, buffers: &Buffers) -> Option<Box
     sides.call(call).err()
 }
 
-/// Smaller buffers on which the call still fails: fewer entries, places, ledgers and clients, then more zero words.
+/// Smaller buffers on which the call still fails: fewer marks, entries, places, ledgers and clients, then more zero words.
 pub fn simplify(subject: Subject, call: Call, buffers: &Buffers) -> Buffers {
     let mut best = buffers.clone();
     let fails = |candidate: &Buffers| difference(subject, call, candidate).is_some();
@@ -61,6 +61,7 @@ pub fn simplify(subject: Subject, call: Call, buffers: &Buffers) -> Buffers {
     for size in [512, 64, 8, 1] {
         zero_words(&mut best, size, |buffers| &mut buffers.entries, fails);
         zero_words(&mut best, size, |buffers| &mut buffers.state, fails);
+        zero_words(&mut best, size, |buffers| &mut buffers.marks, fails);
     }
     best
 }
@@ -81,12 +82,24 @@ fn cuts(buffers: &Buffers) -> Vec<Buffers> {
         cut
     };
     let smaller = |count: u64| [0, count / 2, count.saturating_sub(1)];
-    let mut all = vec![];
+    let mut all = without_a_mark(buffers);
     all.extend(smaller(head.entry_count).map(|entry_count| with(Head { entry_count, ..head })));
     all.extend(smaller(head.list_length).map(|list_length| with(Head { list_length, ..head })));
     all.extend(smaller(head.next_ledger).map(|next_ledger| with(Head { next_ledger, ..head })));
     all.extend(smaller(head.client_count).map(|client_count| with(Head { client_count, ..head })));
     all
+}
+
+/// The same log with one mark less, wherever it is kept.
+fn without_a_mark(buffers: &Buffers) -> Vec<Buffers> {
+    let kept = buffers.marks.chunks_exact(2).take_while(|pair| pair[0] != 0).count();
+    let without = |place: usize| {
+        let mut cut = buffers.clone();
+        cut.marks.drain(2 * place..2 * place + 2);
+        cut.marks.resize(buffers.marks.len(), 0);
+        cut
+    };
+    (0..kept).map(without).collect()
 }
 
 fn zero_words(
@@ -108,7 +121,7 @@ fn zero_words(
 /// The lengths of the buffers and the words that aren't zero.
 pub fn describe(buffers: &Buffers) -> String {
     let mut text = String::new();
-    for (name, words) in [("state", &buffers.state), ("entries", &buffers.entries)] {
+    for (name, words) in [("state", &buffers.state), ("entries", &buffers.entries), ("marks", &buffers.marks)] {
         let set: Vec<_> = words.iter().enumerate().filter(|(_, word)| **word != 0).collect();
         let _ = writeln!(text, "{name}: {} words, {} not zero", words.len(), set.len());
         for (index, word) in set.iter().take(40) {

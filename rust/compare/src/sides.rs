@@ -55,6 +55,7 @@ pub struct Sides {
     subject: Subject,
     state: Guarded,
     entries: Guarded,
+    marks: Guarded,
     output: Guarded,
     model: Buffers,
     /// What was compared so far.
@@ -78,8 +79,9 @@ pub struct Difference {
 impl Sides {
     /// Both sides on empty buffers.
     pub fn new(subject: Subject) -> Self {
-        let (state, entries, output) = Default::default();
-        let mut sides = Sides { subject, state, entries, output, model: Buffers::default(), tally: Tally::default() };
+        let (state, entries, marks, output) = Default::default();
+        let (model, tally) = Default::default();
+        let mut sides = Sides { subject, state, entries, marks, output, model, tally };
         sides.set(&Buffers::default());
         sides
     }
@@ -88,12 +90,14 @@ impl Sides {
     pub fn set(&mut self, buffers: &Buffers) {
         self.state.set(&buffers.state);
         self.entries.set(&buffers.entries);
+        self.marks.set(&buffers.marks);
         self.output.set(&buffers.output);
         self.model.clone_from(buffers);
     }
 
     fn lend(&mut self) -> Lent<'_> {
-        Lent { state: self.state.middle(), entries: self.entries.middle(), output: self.output.middle() }
+        let Sides { state, entries, marks, output, .. } = self;
+        Lent { state: state.middle(), entries: entries.middle(), marks: marks.middle(), output: output.middle() }
     }
 
     /// Changes both sides' buffers in the same way.
@@ -111,8 +115,9 @@ impl Sides {
     pub fn call(&mut self, call: Call) -> Result<Outcome, Box<Difference>> {
         let subject = (self.subject)(call, &mut self.lend());
         let model = model(call, &mut self.model.lend());
-        let Buffers { state, entries, output } = &self.model;
-        if subject == model && self.state.is(state) && self.entries.is(entries) && self.output.is(output) {
+        let Buffers { state, entries, marks, output } = &self.model;
+        let log_is = self.state.is(state) && self.entries.is(entries);
+        if subject == model && log_is && self.marks.is(marks) && self.output.is(output) {
             self.tally.count(call, &model);
             return Ok(model);
         }
@@ -123,6 +128,7 @@ impl Sides {
         let pairs = [
             ("state", &self.state, &self.model.state),
             ("entries", &self.entries, &self.model.entries),
+            ("marks", &self.marks, &self.model.marks),
             ("output", &self.output, &self.model.output),
         ];
         let mut words = vec![];
@@ -153,7 +159,7 @@ mod tests {
     // No safe subject reaches the words around its buffers, so they are changed for it here.
     #[test]
     fn finds_changes_around_the_buffers() {
-        let buffers = Buffers { state: vec![1; 3], entries: vec![], output: vec![2; 5] };
+        let buffers = Buffers { state: vec![1; 3], entries: vec![], marks: vec![4; 2], output: vec![2; 5] };
         let changed = |change: fn(&mut Sides)| {
             let mut sides = Sides::new(model);
             sides.set(&buffers);
@@ -164,6 +170,8 @@ mod tests {
         assert_eq!(changed(|sides| sides.state.0[AROUND - 1] = 0), [("state", -1)]);
         assert_eq!(changed(|sides| sides.state.0[AROUND + 3] = 0), [("state", 3)]);
         assert_eq!(changed(|sides| sides.entries.0[0] = 0), [("entries", -17)]);
+        assert_eq!(changed(|sides| sides.marks.0[AROUND + 2] = 0), [("marks", 2)]);
+        assert_eq!(changed(|sides| sides.marks.0[AROUND] = 0), [("marks", 0)]);
         assert_eq!(changed(|sides| *sides.output.0.last_mut().unwrap() = 0), [("output", 21)]);
         assert_eq!(changed(|sides| sides.output.0[AROUND] = 0), [("output", 0)]);
     }

@@ -1,4 +1,5 @@
-//! Every single-bit change of a log, on the check and on a step; and the log as it is, on every operation.
+//! Every single-bit change of a log, on the check and on a step, and of its marks, on the calls that take them; and the log as it is,
+//! on every operation.
 
 use crate::call::{Buffers, Call, Lent, Outcome, Subject};
 use crate::logs::Named;
@@ -6,6 +7,8 @@ use crate::shrink;
 use crate::sides::Sides;
 use model::Step;
 use model::layout::ENTRY_WORDS;
+use model::marks::{LIMIT, MARK_WORDS};
+use std::ops::Range;
 
 /// Compares every operation on the undamaged log.
 pub fn undamaged(subject: Subject, sides: &mut Sides, log: &Named) -> Result<(), String> {
@@ -16,7 +19,7 @@ pub fn undamaged(subject: Subject, sides: &mut Sides, log: &Named) -> Result<(),
     let windows = windows.map(|(length, limit)| Call::FirstWindow(length, limit));
     let advice = (0..17).map(Call::Advise);
     let readers = [Call::WellFormed, Call::ReadChain, Call::ReadLedger(1), Call::ReadLedger(255)];
-    let others = readers.into_iter().chain(windows).chain(advice).chain([Call::Fresh(4)]);
+    let others = readers.into_iter().chain(windows).chain(advice).chain([Call::Fresh(4)]).chain(ON_MARKS);
     for call in steps.chain(others) {
         sides.set(&buffers);
         match sides.call(call) {
@@ -30,26 +33,57 @@ pub fn undamaged(subject: Subject, sides: &mut Sides, log: &Named) -> Result<(),
 
 /// Compares the check and the log's step on the log with each of these bits changed, one at a time. Bit 64 × i + j is
 /// bit j of word i, the entry words standing behind those of the state.
-pub fn changes(
+pub fn changes(subject: Subject, sides: &mut Sides, log: &Named, bits: Range<usize>) -> Result<(), String> {
+    each_change(subject, sides, log, &log.buffers, &[Call::WellFormed, log.step], bits)
+}
+
+/// Compares the calls on marks with each bit of the marks buffer changed, one at a time.
+pub fn mark_changes(subject: Subject, sides: &mut Sides, log: &Named) -> Result<(), String> {
+    let mut buffers = log.buffers.clone();
+    buffers.output = vec![3; ENTRY_WORDS];
+    let first = bits(log);
+    each_change(subject, sides, log, &buffers, &ON_MARKS, first..first + 64 * MARK_WORDS)
+}
+
+/// The calls on marks: by the name of the first mark, by that of the last of 32, by one that no log here keeps, and by 0, which is one
+/// change away from the first.
+const ON_MARKS: [Call; 9] = [
+    Call::SetMark(NEW),
+    Call::SetMark(1),
+    Call::SetMark(0),
+    Call::DropMark(1),
+    Call::DropMark(LIMIT as u64),
+    Call::DropMark(0),
+    Call::ReadMark(1),
+    Call::ReadMark(LIMIT as u64),
+    Call::ReadMark(0),
+];
+
+/// The name of a mark that no log here keeps.
+const NEW: u64 = 1 << 63;
+
+fn each_change(
     subject: Subject,
     sides: &mut Sides,
     log: &Named,
-    bits: impl Iterator<Item = usize>,
+    buffers: &Buffers,
+    calls: &[Call],
+    bits: Range<usize>,
 ) -> Result<(), String> {
-    sides.set(&log.buffers);
+    sides.set(buffers);
     for bit in bits {
         sides.edit(|lent| flip(lent, bit));
-        for call in [Call::WellFormed, log.step] {
+        for &call in calls {
             match sides.call(call) {
                 Ok(outcome) if outcome.changes() => {
-                    sides.set(&log.buffers);
+                    sides.set(buffers);
                     sides.edit(|lent| flip(lent, bit));
                 }
                 Ok(_) => {}
                 Err(_) => {
-                    let mut damaged = log.buffers.clone();
+                    let mut damaged = buffers.clone();
                     flip(&mut damaged.lend(), bit);
-                    return Err(report(subject, call, &damaged, log, &describe_bit(&log.buffers, bit)));
+                    return Err(report(subject, call, &damaged, log, &describe_bit(buffers, bit)));
                 }
             }
         }
@@ -58,26 +92,26 @@ pub fn changes(
     Ok(())
 }
 
-/// The number of bits of a log.
+/// The number of bits of a log. Those of its marks stand behind them.
 pub fn bits(log: &Named) -> usize {
     64 * (log.buffers.state.len() + log.buffers.entries.len())
 }
 
 /// Changes one bit.
 pub fn flip(lent: &mut Lent, bit: usize) {
-    let index = bit / 64;
-    let word = match index.checked_sub(lent.state.len()) {
-        None => &mut lent.state[index],
-        Some(entry) => &mut lent.entries[entry],
-    };
-    *word ^= 1 << (bit % 64);
+    let word = lent.state.iter_mut().chain(&mut *lent.entries).chain(&mut *lent.marks).nth(bit / 64);
+    *word.expect("a bit of a buffer") ^= 1 << (bit % 64);
 }
 
 fn describe_bit(buffers: &Buffers, bit: usize) -> String {
-    match (bit / 64).checked_sub(buffers.state.len()) {
-        None => format!("with bit {} of state word {} changed", bit % 64, bit / 64),
-        Some(entry) => format!("with bit {} of entry word {entry} changed", bit % 64),
+    let mut index = bit / 64;
+    for (name, words) in [("state", &buffers.state), ("entry", &buffers.entries)] {
+        if index < words.len() {
+            return format!("with bit {} of {name} word {index} changed", bit % 64);
+        }
+        index -= words.len();
     }
+    format!("with bit {} of mark word {index} changed", bit % 64)
 }
 
 fn report(subject: Subject, call: Call, buffers: &Buffers, log: &Named, how: &str) -> String {

@@ -4,8 +4,8 @@ use crate::call::{Call, Outcome};
 use model::{Answer, Step};
 use std::fmt;
 
-/// The operations, in the reference's order, each with the answers that it can give: 1 to 20 are refusals. None gives 14.
-const OPERATIONS: [(&str, &[usize]); 17] = [
+/// The operations, in the reference's order, each with the answers that it can give: 1 to 23 are refusals. None gives 14.
+const OPERATIONS: [(&str, &[usize]); 20] = [
     ("fresh", &[DONE, 1, 17]),
     ("name", &[DONE, 1, 2, 3, 4]),
     ("become", &[DONE, 1, 2, 3, 5, 6]),
@@ -23,25 +23,28 @@ const OPERATIONS: [(&str, &[usize]); 17] = [
     ("read ledger", &[DONE, 1, 2, 15]),
     ("read chain", &[DONE, 1, 2, 16]),
     ("first window", &[FOUND, NONE, 1, 2, 20]),
+    ("set mark", &[DONE, 1, 2, 21, 22]),
+    ("drop mark", &[DONE, 1, 2, 23]),
+    ("read mark", &[DONE, 1, 2, 16, 23]),
 ];
 
-const DONE: usize = 21;
-const WAS_CLOSED: usize = 22;
-const BEHIND: usize = 23;
-const ENTRY: usize = 24;
-const YES: usize = 25;
-const NO: usize = 26;
-const FOUND: usize = 27;
-const NONE: usize = 28;
-const BECOME: usize = 29;
-const ABDICATE: usize = 30;
-const FETCH: usize = 31;
-const CLOSE_LAST: usize = 32;
-const FINISH: usize = 33;
-const CREATE: usize = 34;
-const APPEND: usize = 35;
-const WRITE: usize = 36;
-const CLOSE_OWN: usize = 37;
+const DONE: usize = 24;
+const WAS_CLOSED: usize = DONE + 1;
+const BEHIND: usize = DONE + 2;
+const ENTRY: usize = DONE + 3;
+const YES: usize = DONE + 4;
+const NO: usize = DONE + 5;
+const FOUND: usize = DONE + 6;
+const NONE: usize = DONE + 7;
+const BECOME: usize = DONE + 8;
+const ABDICATE: usize = DONE + 9;
+const FETCH: usize = DONE + 10;
+const CLOSE_LAST: usize = DONE + 11;
+const FINISH: usize = DONE + 12;
+const CREATE: usize = DONE + 13;
+const APPEND: usize = DONE + 14;
+const WRITE: usize = DONE + 15;
+const CLOSE_OWN: usize = DONE + 16;
 const NAMES: [&str; 17] = [
     "done",
     "was closed",
@@ -120,6 +123,9 @@ fn operation(call: Call) -> usize {
         Call::ReadLedger(_) => 14,
         Call::ReadChain => 15,
         Call::FirstWindow(..) => 16,
+        Call::SetMark(_) => 17,
+        Call::DropMark(_) => 18,
+        Call::ReadMark(_) => 19,
     }
 }
 

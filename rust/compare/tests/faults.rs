@@ -1,11 +1,11 @@
 //! The comparison finds planted faults and makes what shows them small; and a short run meets every answer.
 
-use compare::call::{self, Call, Lent, Outcome, Subject};
+use compare::call::{self, Buffers, Call, Lent, Outcome, Subject};
 use compare::sides::Sides;
 use compare::{buffers, histories, logs, sweep};
 use model::layout::{Client, Entry, Head, Ledger, client_index, ledger_index, place_index};
 use model::random::Random;
-use model::{Answer, Step};
+use model::{Answer, Step, words};
 
 /// The first report, within this many tries.
 fn first(
@@ -35,8 +35,12 @@ fn refuses_unnamed(call: Call, lent: &mut Lent) -> Outcome {
 
 /// What the model gives, without a change of the buffers.
 fn on_copies(call: Call, lent: &Lent) -> Outcome {
-    let (mut state, mut entries, mut output) = (lent.state.to_vec(), lent.entries.to_vec(), lent.output.to_vec());
-    call::model(call, &mut Lent { state: &mut state, entries: &mut entries, output: &mut output })
+    call::model(call, &mut copies(lent).lend())
+}
+
+fn copies(lent: &Lent) -> Buffers {
+    let Lent { state, entries, marks, output } = lent;
+    Buffers { state: state.to_vec(), entries: entries.to_vec(), marks: marks.to_vec(), output: output.to_vec() }
 }
 
 // Another: a closer that is behind goes on to create. The answer is right, a word isn't.
@@ -217,9 +221,9 @@ fn at_the_limit_is_over(call: Call, lent: &mut Lent) -> Outcome {
 fn leaves_out_the_last_window(call: Call, lent: &mut Lent) -> Outcome {
     let outcome = call::model(call, lent);
     if let (Call::FirstWindow(length, _), Outcome::Window { found: 1, start, .. }) = (call, &outcome) {
-        let mut output = vec![0; 255 * 4096];
-        let reading = Lent { state: lent.state, entries: lent.entries, output: &mut output };
-        if on_copies(Call::ReadChain, &reading) == (Outcome::Count { answer: Answer::Done, count: start + length }) {
+        let mut reading = Buffers { output: vec![0; 255 * 4096], ..copies(lent) };
+        let chain = call::model(Call::ReadChain, &mut reading.lend());
+        if chain == (Outcome::Count { answer: Answer::Done, count: start + length }) {
             return Outcome::Window { answer: Answer::Done, found: 0, start: 0 };
         }
     }
@@ -231,9 +235,9 @@ fn advises_by_stage_alone(call: Call, lent: &mut Lent) -> Outcome {
     let outcome = call::model(call, lent);
     match (call, &outcome) {
         (Call::Advise(client), Outcome::Advice(_)) => {
-            let mut state = lent.state.to_vec();
-            state[0] = Head { leader: client, ..Head::load(state[0]).0 }.word();
-            call::model(call, &mut Lent { state: &mut state, entries: lent.entries, output: lent.output })
+            let mut named = copies(lent);
+            named.state[0] = Head { leader: client, ..Head::load(named.state[0]).0 }.word();
+            call::model(call, &mut named.lend())
         }
         _ => outcome,
     }
@@ -257,6 +261,107 @@ fn looks_at_another_fence(call: Call, lent: &mut Lent) -> Outcome {
         return Outcome::Advice(Some(if fenced { Step::CloseOwn } else { Step::Write(0) }));
     }
     outcome
+}
+
+// A mark that is dropped leaves a zero pair where it was.
+fn leaves_a_gap(call: Call, lent: &mut Lent) -> Outcome {
+    let before = lent.marks.to_vec();
+    let outcome = call::model(call, lent);
+    if let (Call::DropMark(name), Outcome::Answer(Answer::Done)) = (call, &outcome) {
+        lent.marks.copy_from_slice(&before);
+        let place = before.iter().step_by(2).position(|&kept| kept == name).expect("it was kept");
+        lent.marks[2 * place..2 * place + 2].fill(0);
+    }
+    outcome
+}
+
+// The first words of the chain reading are given, where there are so many, and not those of the entry buffer.
+fn reads_the_chain(call: Call, lent: &mut Lent) -> Outcome {
+    let outcome = call::model(call, lent);
+    if let (Call::ReadMark(_), Outcome::Count { answer: Answer::Done, count }) = (call, &outcome) {
+        let (mut chain, count) = (vec![0; 255 * 4096], *count as usize);
+        if words::read_chain(lent.state, lent.entries, &mut chain).is_ok_and(|length| length >= count) {
+            lent.output[..count].copy_from_slice(&chain[..count]);
+        }
+    }
+    outcome
+}
+
+// A mark that is set while 32 are kept is refused for want of room, whatever its name.
+fn room_before_the_name(call: Call, lent: &mut Lent) -> Outcome {
+    match (call, call::model(call, lent)) {
+        (Call::SetMark(_), Outcome::Answer(Answer::Refused(21))) if lent.marks[62] != 0 => {
+            Outcome::Answer(Answer::Refused(22))
+        }
+        (_, outcome) => outcome,
+    }
+}
+
+// Name 0 is found in the first zero pair.
+fn finds_name_zero(call: Call, lent: &mut Lent) -> Outcome {
+    match (call, call::model(call, lent)) {
+        (Call::ReadMark(0), Outcome::Count { answer: Answer::Refused(23), .. }) if lent.marks[62] == 0 => {
+            Outcome::Count { answer: Answer::Done, count: 0 }
+        }
+        (Call::DropMark(0), Outcome::Answer(Answer::Refused(23))) if lent.marks[62] == 0 => {
+            Outcome::Answer(Answer::Done)
+        }
+        (_, outcome) => outcome,
+    }
+}
+
+// Every mark is set at the count of the first.
+fn sets_at_the_first_count(call: Call, lent: &mut Lent) -> Outcome {
+    let outcome = call::model(call, lent);
+    if let (Call::SetMark(_), Outcome::Answer(Answer::Done)) = (call, &outcome) {
+        let last = lent.marks.iter().step_by(2).take_while(|&&name| name != 0).count() - 1;
+        lent.marks[2 * last + 1] = lent.marks[1];
+    }
+    outcome
+}
+
+// The marks are taken though one bit of a count's word is set that should not be.
+fn overlooks_a_marks_bit(call: Call, lent: &mut Lent) -> Outcome {
+    match call {
+        Call::ReadMark(_) if lent.marks.len() == 64 && lent.marks[5] & 1 == 1 => {
+            lent.marks[5] &= !1;
+            let outcome = call::model(call, lent);
+            lent.marks[5] |= 1;
+            outcome
+        }
+        call => call::model(call, lent),
+    }
+}
+
+#[test]
+fn finds_wrong_marks() {
+    let report = first(histories::compare, leaves_a_gap, 100).expect("the fault is found");
+    // Two marks are set, and the first is dropped.
+    assert!(history(&report).len() <= 3 && report.contains("marks word 0"), "{report}");
+    let report = first(buffers::compare, room_before_the_name, 300).expect("the fault is found");
+    assert!(report.contains("gives Answer(Refused(22)), the model Answer(Refused(21))"), "{report}");
+    for compare in [histories::compare, buffers::compare] {
+        let report = first(compare, finds_name_zero, 300).expect("the fault is found");
+        assert!(report.contains("Mark(0): the library gives "), "{report}");
+    }
+    let report = first(histories::compare, sets_at_the_first_count, 100).expect("the fault is found");
+    assert!(report.contains("marks word 3"), "{report}");
+}
+
+// The two differ only where no fresh log leads to.
+#[test]
+fn finds_a_reading_from_the_chain() {
+    assert_eq!(first(histories::compare, reads_the_chain, 100), None);
+    let report = first(buffers::compare, reads_the_chain, 1000).expect("the fault is found");
+    assert!(report.contains("output word 0"), "{report}");
+}
+
+#[test]
+fn finds_an_overlooked_bit_of_the_marks() {
+    let log = &logs::all()[2];
+    let mut sides = Sides::new(overlooks_a_marks_bit);
+    let report = sweep::mark_changes(overlooks_a_marks_bit, &mut sides, log).unwrap_err();
+    assert!(report.contains("with bit 0 of mark word 5 changed"), "{report}");
 }
 
 #[test]
