@@ -10,7 +10,9 @@ use Rattle.chain.specs.declared.answer.Answer.the-variants.{Done, Refused}
 use Rattle.chain.specs.declared.answer.ChainAnswer.{ChainAnswer}
 use Rattle.chain.specs.declared.answer.WindowAnswer.{WindowAnswer}
 use Rattle.chain.specs.Answers.{answerNumber, chainNumber, chainCount, windowNumber, windowFound, windowStart}
+use Rattle.chain.specs.Rights.{allRights}
 use Rattle.chain.specs.Steps.{Step}
+use Rattle.chain.specs.Buffers.{head}
 use Rattle.chain.specs.Operations.{Buffers, stepAnswer, afterStep, Result, freshChecks, freshAnswer, afterFresh}
 use Rattle.chain.specs.Operations.{readLedgerChecks, readLedgerAnswer, readLedgerPart, readChainAnswer, readChainOutput}
 use Rattle.chain.specs.Windows.{firstWindow}
@@ -34,6 +36,10 @@ FreshCall n b = Call (freshAnswer n b) (afterFresh n b)
 
 abbrev pub StepCall : Step → Buffers → ℕ → List ℕ → List ℕ → Type 0
 StepCall x b = Call (stepAnswer x b) (afterStep x b)
+
+-- The rights of the functions that take none: all ten of each client.
+abbrev pub allOf : List ℕ → List ℕ
+allOf state = allRights (head state .«client_count»)
 
 -- Read ledger: its answer, and where the part that it hands back begins and how many words it has.
 pub record LedgerCall (l : ℕ) (b : Buffers) (answer start count : ℕ) : Type 0 where

@@ -3,6 +3,7 @@ pub mod advice;
 pub mod log;
 pub mod mark;
 mod number;
+pub mod permitted;
 pub mod reading;
 pub mod step;
 pub mod version;

@@ -3,7 +3,7 @@ use mathlib.Core.Path.{_≡_, refl, ap, subst, _∙_}
 use mathlib.Core.Bool.{Bool, true, false, not, cond}
 use mathlib.Core.List.{List, [], _∷_, _++_}
 use Rattle.checks.specs.Test.{Test, test, Holds, Fails}
-use Rattle.checks.specs.TestLaws.{by-bool, split, false-fails, fails-false}
+use Rattle.checks.specs.TestLaws.{by-bool, split, true-holds, false-fails, fails-false}
 
 infix 10 _when_
 pub data Check (R : Type 0) : Type 0 where
@@ -56,6 +56,36 @@ pub passed-first : {R A : Type 0} (cs : List (Check R)) (refuse : R → A) (a : 
 passed-first [] refuse a p = refl
 passed-first ((r when t) ∷ cs) refuse a p = rw (fails-false t (p .0)) (passed-first cs refuse a (p .1))
 
+-- Checks that are passed, and then others.
+pub first-after : {R A : Type 0} (cs ds : List (Check R)) (refuse : R → A) (a : A) → Passed cs → first (cs ++ ds) refuse a ≡ first ds refuse a
+first-after [] ds refuse a p = refl
+first-after ((r when t) ∷ cs) ds refuse a p = rw (fails-false t (p .0)) (first-after cs ds refuse a (p .1))
+
+-- One check more, at any place: its refusal is given where its condition holds, or what is given without it.
+pub data Inserted {A : Type 0} (t : Test) (refusal without out : A) : Type 0 where
+  stopped : Holds t → out ≡ refusal → Inserted t refusal without out
+  as-before : out ≡ without → Inserted t refusal without out
+
+pub inserted : {R A : Type 0} (cs ds : List (Check R)) (r : R) (t : Test) (refuse : R → A) (a : A)
+    → Inserted t (refuse r) (first (cs ++ ds) refuse a) (first (cs ++ ((r when t) ∷ ds)) refuse a)
+inserted [] ds r t refuse a = by-bool (test t) (λ h. stopped (true-holds t h) (rw h)) (λ h. as-before (rw h))
+inserted ((q when u) ∷ cs) ds r t refuse a = by-bool (test u) (λ h. as-before (rw h)) (λ h. rw h (inserted cs ds r t refuse a))
+
+-- A check that never holds where those before it are passed changes nothing.
+pub idle : {R A : Type 0} (cs ds : List (Check R)) (r : R) (t : Test) (refuse : R → A) (a : A) → (Passed cs → Fails t)
+    → first (cs ++ ((r when t) ∷ ds)) refuse a ≡ first (cs ++ ds) refuse a
+idle [] ds r t refuse a w = rw (fails-false t (w tt))
+idle ((q when u) ∷ cs) ds r t refuse a w = by-bool (test u) (λ h. rw h)
+    (λ h. rw h (idle cs ds r t refuse a (λ p. w (false-fails u h, p))))
+
+-- One check replaced by one that refuses no more: what is given stays, unless it was that refusal.
+pub relaxed : {R A : Type 0} (cs ds : List (Check R)) (r : R) (t u : Test) (refuse : R → A) (a : A) → (Fails t → Fails u)
+    → (first (cs ++ ((r when t) ∷ ds)) refuse a ≡ refuse r → ⊥)
+    → first (cs ++ ((r when u) ∷ ds)) refuse a ≡ first (cs ++ ((r when t) ∷ ds)) refuse a
+relaxed [] ds r t u refuse a w n = by-bool (test t) (λ h. absurd (n (rw h))) (λ h. rw (h, fails-false u (w (false-fails t h))))
+relaxed ((q when v) ∷ cs) ds r t u refuse a w n = by-bool (test v) (λ h. rw h)
+    (λ h. rw h (relaxed cs ds r t u refuse a w (λ e. n (rw h e))))
+
 -- The checks that give some of the refusals, the others, and those before the first of them, each in their order. Proofs take a check by its
 -- refusal and not by its place, so that another check can be added, moved or dropped.
 abbrev pub select : {R : Type 0} → (R → Bool) → List (Check R) → List (Check R)
@@ -69,6 +99,13 @@ abbrev pub before : {R : Type 0} → (R → Bool) → List (Check R) → List (C
 before kind [] = []
 before kind ((r when t) ∷ cs) = cond (kind r) [] ((r when t) ∷ before kind cs)
 
+-- Fewer of the refusals can be taken from those selected.
+pub select-fewer : {R : Type 0} (kind fewer : R → Bool) (cs : List (Check R)) → ((r : R) → fewer r ≡ true → kind r ≡ true)
+    → select fewer cs ≡ select fewer (select kind cs)
+select-fewer kind fewer [] w = refl
+select-fewer kind fewer ((r when t) ∷ cs) w = by-bool (fewer r) (λ h. rw (h, w r h) (rw h (ap (λ ds. (r when t) ∷ ds) (select-fewer kind fewer cs w))))
+    (λ h. by-bool (kind r) (λ k. rw (h, k) (rw h (select-fewer kind fewer cs w))) (λ k. rw (h, k) (select-fewer kind fewer cs w)))
+
 pub each-selected : {R : Type 0} (P : R → Test → Type 0) (kind : R → Bool) (cs : List (Check R)) → Each P cs → Each P (select kind cs)
 each-selected P kind [] p = tt
 each-selected P kind ((r when t) ∷ cs) p = by-bool (kind r) (λ h. rw h (p .0, each-selected P kind cs (p .1)))
@@ -77,6 +114,11 @@ each-selected P kind ((r when t) ∷ cs) p = by-bool (kind r) (λ h. rw h (p .0,
 pub each-after : {R : Type 0} (P : R → Test → Type 0) (cs ds : List (Check R)) → Each P (cs ++ ds) → Each P ds
 each-after P [] ds p = p
 each-after P ((r when t) ∷ cs) ds p = each-after P cs ds (p .1)
+
+pub each-without : {R : Type 0} (P : R → Test → Type 0) (cs ds : List (Check R)) (r : R) (t : Test) → Each P (cs ++ ((r when t) ∷ ds))
+    → P r t × Each P (cs ++ ds)
+each-without P [] ds r t p = p
+each-without P ((q when u) ∷ cs) ds r t p = let o : P r t × Each P (cs ++ ds) = each-without P cs ds r t (p .1) in (o .0, (p .0, o .1))
 
 each-joined : {R : Type 0} (P : R → Test → Type 0) (kind : R → Bool) (cs : List (Check R)) → Each P (select kind cs)
     → Each P (others kind cs) → Each P cs

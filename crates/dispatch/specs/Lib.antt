@@ -1,2 +1,3 @@
-pub mod Results
 pub mod Dispatch
+pub mod Results
+pub mod Summing

@@ -1,13 +1,12 @@
 -- What the verdict on all three buffers says to the operation that goes on from it.
 use Prim.Native.Nat.{ℕ}
 use mathlib.Core.Path.{_≡_, refl, sym, ap, _∙_}
-use mathlib.Core.Bool.{true, false}
+use mathlib.Core.Bool.{true, false, not}
 use mathlib.Core.List.{List, [], _∷_}
 use lib.ListN.{length, getD}
 use Rattle.fields.specs.Bit.{bit-true}
-use Rattle.checks.specs.Test.{differ, flag, lacks}
-use Rattle.checks.specs.TestLaws.{holds-true, fails-false}
-use Rattle.checks.specs.Checks.{Check, _when_, Passed}
+use Rattle.checks.specs.Test.{Test, differ, flag, lacks}
+use Rattle.checks.specs.Checks.{Check, Passed}
 use Rattle.records.specs.declared.head.Head.{Head}
 use Rattle.records.specs.Words.{unpackHead}
 use Rattle.chain.specs.declared.answer.Refusal.{Refusal}
@@ -19,32 +18,30 @@ use Rattle.chain.specs.Buffers.{head}
 use Rattle.chain.specs.Operations.{buffers, logChecks}
 use Rattle.chain.specs.Marks.{marksLength, pairsOf, wellMarked, logCount, marksChecks}
 use Rattle.chain.specs.Laws.Formed.{Formed, formed}
-use Rattle.wellformed.specs.LogVerdict.{log-refused, log-passed}
+use Rattle.wellformed.specs.ThirdBuffer.{third-length, third-no-log, third-words, third-pass}
 
 module _ (s e ms : List ℕ) where
+  abbrev wrong : Test
+  wrong = differ (length ms) marksLength
+
+  abbrev faulty : Test
+  faulty = lacks (flag (wellMarked (logCount (buffers s e)) (pairsOf ms)))
+
   pub wrong-length : (length ms ≡ marksLength → ⊥) → Refuse WrongLength ≡ verdict (marksChecks (buffers s e) ms [])
-  unfolding verdict
-  wrong-length n = rw (holds-true (differ (length ms) marksLength) n)
+  wrong-length n = third-length (buffers s e) wrong faulty n
 
   module _ (long : length ms ≡ marksLength) (v : Verdict) (is : v ≡ verdict (logChecks (buffers s e) [])) where
-    abbrev marksTest : Check Refusal
-    marksTest = NotWellFormed when lacks (flag (wellMarked (logCount (buffers s e)) (pairsOf ms)))
-
-    then-log : verdict (marksChecks (buffers s e) ms []) ≡ verdict (logChecks (buffers s e) (marksTest ∷ []))
-    unfolding verdict
-    then-log = rw (fails-false (differ (length ms) marksLength) long)
-
     pub no-log : (r : Refusal) → v ≡ Refuse r → Refuse r ≡ verdict (marksChecks (buffers s e) ms [])
-    no-log r p = log-refused (buffers s e) (marksTest ∷ []) v is r p ∙ sym then-log
+    no-log r p = third-no-log (buffers s e) wrong faulty long v is r p
 
     module _ (h : Head) (at : h ≡ unpackHead (getD s 0 0)) (p : v ≡ Pass) where
       pub wrong-marks : wellMarked (h .«entry_count») (pairsOf ms) ≡ false → Refuse NotWellFormed ≡ verdict (marksChecks (buffers s e) ms [])
-      unfolding verdict head
-      wrong-marks f = sym (then-log ∙ log-passed (buffers s e) (marksTest ∷ []) v is p ∙ rw (rw at at f))
+      unfolding head
+      wrong-marks f = third-words (buffers s e) wrong faulty long v is p (ap not (rw at at f))
 
       pub marks-pass : wellMarked (h .«entry_count») (pairsOf ms) ≡ true → Pass ≡ verdict (marksChecks (buffers s e) ms [])
-      unfolding verdict head
-      marks-pass t = sym (then-log ∙ log-passed (buffers s e) (marksTest ∷ []) v is p ∙ rw (rw at at t))
+      unfolding head
+      marks-pass t = third-pass (buffers s e) wrong faulty long v is p (ap not (rw at at t))
 
   -- The verdict on all three buffers, then that of further checks.
   module _ (cs : List (Check Refusal)) (v : Verdict) (is : v ≡ verdict (marksChecks (buffers s e) ms [])) where

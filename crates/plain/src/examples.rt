@@ -109,7 +109,7 @@ pub fn on_a_fresh_log(model: &mut Model, state: &mut State, entries: &mut Entrie
 fn become_on_short(state: &mut [u64], entries: &mut [u64]) -> Answer
     requires { ⌜ 526 ≤ length (now state) ⌝ }
 {
-    steps::become_leader::become_leader(&mut state[..526], entries, 0)
+    steps::become_leader::become_leader(&mut state[..526], entries, &[0; rights::LENGTH], 0)
 }
 
 // No state of LedgerChaining is a word short, so the model takes no step here; the words are still its own.

@@ -48,7 +48,9 @@ pub fn recovery(model: &mut Model, state: &mut State, entries: &mut Entries) {
 fn finish_with(state: &mut State, entries: &mut Entries, client: u64, ledger: u64) -> Answer {
     state[2] = client;
     state[17] = ledger;
-    steps::finish::finish(state, entries, 1)
+    let mut rights = [0u64; rights::LENGTH];
+    rights::all::grant_all_of(state, &mut rights);
+    steps::finish::finish(state, entries, &rights, 1)
 }
 
 // Memories that no history leads to, and a ledger closed with version 2 that is not fenced. LedgerChaining has no state for any of them.

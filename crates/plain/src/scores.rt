@@ -12,7 +12,9 @@ fn accepted(
     scores: &[u16],
     value: u64,
 ) {
-    let answer = steps::write_scores::write_scores(state, entries, 0, scores);
+    let mut rights = [0u64; rights::LENGTH];
+    rights::all::grant_all_of(state, &mut rights);
+    let answer = steps::write_scores::write_scores(state, entries, &rights, 0, scores);
     comparison::step::follow(
         model,
         state,
@@ -31,7 +33,9 @@ fn refused(
     label: &[u8],
     scores: &[u16],
 ) {
-    let answer = steps::write_scores::write_scores(state, entries, 0, scores);
+    let mut rights = [0u64; rights::LENGTH];
+    rights::all::grant_all_of(state, &mut rights);
+    let answer = steps::write_scores::write_scores(state, entries, &rights, 0, scores);
     say_line(label, answer);
     comparison::buffers::compare_buffers(model, state, entries);
 }

@@ -1,4 +1,4 @@
--- A line as a request: the step that it takes, the reply to it, and the buffers after it.
+-- A line as a request: the step that it takes under the rights that are lent, the reply to it, and the buffers after it.
 use Prim.Native.Nat.{ℕ}
 use mathlib.Core.Path.{_≡_, refl, ap}
 use mathlib.Core.Bool.{cond}
@@ -19,38 +19,39 @@ use Rattle.requests.specs.Lines.{Line}
 unfoldable pub requestOf : Line → Request
 requestOf l = cond (l .ended) (parseLine (l .content)) BadLine
 
-abbrev pub replyTo : Request → Buffers → Reply
-replyTo (Take x) b = Answered (stepAnswer (stepOf x) b)
-replyTo BadLine b = NoStep
+abbrev pub replyTo : List ℕ → Request → Buffers → Reply
+replyTo rights (Take x) b = Answered (stepAnswer (stepOf rights x) b)
+replyTo rights BadLine b = NoStep
 
 -- A bad line takes no step.
-abbrev pub afterRequest : Request → Buffers → Buffers
-afterRequest (Take x) b = afterStep (stepOf x) b
-afterRequest BadLine b = b
+abbrev pub afterRequest : List ℕ → Request → Buffers → Buffers
+afterRequest rights (Take x) b = afterStep (stepOf rights x) b
+afterRequest rights BadLine b = b
 
 -- The steps that the lines take, in their order.
-abbrev pub requested : Request → List Step
-requested (Take x) = stepOf x ∷ []
-requested BadLine = []
+abbrev pub requested : List ℕ → Request → List Step
+requested rights (Take x) = stepOf rights x ∷ []
+requested rights BadLine = []
 
-unfoldable pub taken : List Line → List Step
-taken [] = []
-taken (l ∷ ls) = requested (requestOf l) ++ taken ls
+unfoldable pub taken : List ℕ → List Line → List Step
+taken rights [] = []
+taken rights (l ∷ ls) = requested rights (requestOf l) ++ taken rights ls
 
 -- The steps of a request, and then others.
-pub request-steps : (r : Request) (xs : List Step) (b : Buffers) → afterSteps (requested r ++ xs) b ≡ afterSteps xs (afterRequest r b)
+pub request-steps : (rights : List ℕ) (r : Request) (xs : List Step) (b : Buffers)
+    → afterSteps (requested rights r ++ xs) b ≡ afterSteps xs (afterRequest rights r b)
 unfolding afterSteps
-request-steps (Take x) xs b = refl
-request-steps BadLine xs b = refl
+request-steps rights (Take x) xs b = refl
+request-steps rights BadLine xs b = refl
 
 -- What the code of a request owes: the reply to it, and both buffers after it.
-pub record Answers (r : Request) (b : Buffers) (reply : Reply) (state entries : List ℕ) : Type 0 where
-  pub replies : reply ≡ replyTo r b
-  pub after-it : buffers state entries ≡ afterRequest r b
+pub record Answers (rights : List ℕ) (r : Request) (b : Buffers) (reply : Reply) (state entries : List ℕ) : Type 0 where
+  pub replies : reply ≡ replyTo rights r b
+  pub after-it : buffers state entries ≡ afterRequest rights r b
 
-pub took : (x : code.Step) (b : Buffers) (a : Answer) (state entries : List ℕ) → Result (stepOf x) b a state entries
-    → Answers (Take x) b (Answered a) state entries
-took x b a state entries r = record { replies = ap Answered (r .answers); after-it = λ i. buffers (r .state-words i) (r .entry-words i) }
+pub took : (rights : List ℕ) (x : code.Step) (b : Buffers) (a : Answer) (state entries : List ℕ) → Result (stepOf rights x) b a state entries
+    → Answers rights (Take x) b (Answered a) state entries
+took rights x b a state entries r = record { replies = ap Answered (r .answers); after-it = λ i. buffers (r .state-words i) (r .entry-words i) }
 
-pub took-none : (state entries : List ℕ) → Answers BadLine (buffers state entries) NoStep state entries
-took-none state entries = record { replies = refl; after-it = refl }
+pub took-none : (rights state entries : List ℕ) → Answers rights BadLine (buffers state entries) NoStep state entries
+took-none rights state entries = record { replies = refl; after-it = refl }

@@ -31,24 +31,30 @@ fn request_of(bytes: &[u8], ended: bool) -> Request
     }
 }
 
-fn answer_request(state: &mut [u64], entries: &mut [u64], request: Request) -> Reply
-    ensures { λ r. ⌜ Answers request (buffers (now (state .entry)) (now (entries .entry))) r (now (state .exit)) (now (entries .exit)) ⌝ }
+fn answer_request(state: &mut [u64], entries: &mut [u64], rights: &[u64], request: Request) -> Reply
+    ensures { λ r. ⌜ Answers (now (rights .entry)) request (buffers (now (state .entry)) (now (entries .entry))) r (now (state .exit)) (now (entries .exit)) ⌝ }
 {
     match request {
-        Request::Take(step) => Reply::Answered(dispatch::take_step(state, entries, step)),
+        Request::Take(step) => Reply::Answered(dispatch::take_step(state, entries, rights, step)),
         Request::BadLine => Reply::NoStep,
     }
 }
 
-// Takes the line that begins at a place of the input.
-pub fn take_line(input: &[u8], from: usize, state: &mut [u64], entries: &mut [u64]) -> Taken
+// Takes the line that begins at a place of the input, under the rights that are lent.
+pub fn take_line(
+    input: &[u8],
+    from: usize,
+    state: &mut [u64],
+    entries: &mut [u64],
+    rights: &[u64],
+) -> Taken
     requires more { ⌜ from < length (now input) ⌝ }
     requires small { ⌜ length (now input) ≤ 16384 ⌝ }
-    ensures { λ r. ⌜ TakesLine (now (input .entry)) from (buffers (now (state .entry)) (now (entries .entry))) (r .reply) (r .next) (buffers (now (state .exit)) (now (entries .exit))) ⌝ }
+    ensures { λ r. ⌜ TakesLine (now (rights .entry)) (now (input .entry)) from (buffers (now (state .entry)) (now (entries .entry))) (r .reply) (r .next) (buffers (now (state .exit)) (now (entries .exit))) ⌝ }
 {
     let end = text::find::index_from(input, from, crate::LINE_END);
     let request = request_of(&input[from..end], end < input.len());
-    let reply = answer_request(state, entries, request);
+    let reply = answer_request(state, entries, rights, request);
     Taken {
         reply,
         next: end + 1,

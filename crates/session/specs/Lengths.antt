@@ -13,6 +13,7 @@ use Rattle.chain.specs.declared.answer.Answer.the-variants.{Done, WasClosed, Be
 use Rattle.chain.specs.Answers.{refusalNumber}
 use Rattle.chain.specs.Log.{alongList}
 use Rattle.chain.specs.Steps.{Step}
+use Rattle.chain.specs.Rights.{allRights}
 use Rattle.chain.specs.Operations.{Buffers, held, stepAnswer, afterSteps, freshBuffers, wordLedger, usedWords, cleared, chainReading}
 use Rattle.chain.specs.Laws.Numbers.{NumbersBelow, step-numbers, refusal-small}
 use Rattle.chain.specs.Laws.Readings.{read-all}
@@ -44,9 +45,9 @@ answer-length (Refused r) h = omega (
   decimal-length 2 (refusalNumber r) (omega arith) (refusal-small r),
 )
 
-reply-length : (r : Request) (b : Buffers) → length (replyText (replyTo r b)) ≤ 21
-reply-length (Take x) b = answer-length (stepAnswer (stepOf x) b) (step-numbers (stepOf x) b)
-reply-length BadLine b = omega arith
+reply-length : (rights : List ℕ) (r : Request) (b : Buffers) → length (replyText (replyTo rights r b)) ≤ 21
+reply-length rights (Take x) b = answer-length (stepAnswer (stepOf rights x) b) (step-numbers (stepOf rights x) b)
+reply-length rights BadLine b = omega arith
 
 -- A numbered line has at most 28 bytes: five digits, two separators and the reply.
 line-length : (number : ℕ) (reply : List ℕ) → number < 100000 → length reply ≤ 21 → length (replyLine number reply) ≤ 28
@@ -93,18 +94,18 @@ no-steps : (b : Buffers) → afterSteps [] b ≡ b
 unfolding afterSteps
 no-steps b = refl
 
-session-length : (ls : List Line) (number : ℕ) (b : Buffers) → number + length ls ≤ 100000
-    → length (session number ls b) ≤ 28 * length ls + length (chainLine (chainReading (afterSteps (taken ls) b)))
+session-length : (rights : List ℕ) (ls : List Line) (number : ℕ) (b : Buffers) → number + length ls ≤ 100000
+    → length (session rights number ls b) ≤ 28 * length ls + length (chainLine (chainReading (afterSteps (taken rights ls) b)))
 unfolding session taken
-session-length [] number b h = rw (no-steps b) (omega arith)
-session-length (l ∷ ls) number b h =
+session-length rights [] number b h = rw (no-steps b) (omega arith)
+session-length rights (l ∷ ls) number b h =
     let r : Request = requestOf l in
-    let reply : List ℕ = replyText (replyTo r b) in
-    rw (request-steps r (taken ls) b) (omega (
+    let reply : List ℕ = replyText (replyTo rights r b) in
+    rw (request-steps rights r (taken rights ls) b) (omega (
       arith,
-      length-append (replyLine number reply) (session (suc number) ls (afterRequest r b)),
-      line-length number reply (omega arith) (reply-length r b),
-      session-length ls (suc number) (afterRequest r b) (omega arith),
+      length-append (replyLine number reply) (session rights (suc number) ls (afterRequest rights r b)),
+      line-length number reply (omega arith) (reply-length rights r b),
+      session-length rights ls (suc number) (afterRequest rights r b) (omega arith),
     ))
 
 -- Read chain gives the whole reading of a log that a session leads to.
@@ -119,9 +120,9 @@ reads n some few xs out h =
 session-limit : (n : ℕ) (ls : List Line) → 1 ≤ n → n ≤ clientLimit → length ls ≤ inputLimit → length (sessionText n ls) ≤ textLimit
 session-limit n ls some few h = omega (
   arith,
-  session-length ls 1 (freshBuffers sessionCapacity n) (omega arith),
-  chain-length (afterSteps (taken ls) (freshBuffers sessionCapacity n)),
-  reading-length n some few (taken ls),
+  session-length (allRights n) ls 1 (freshBuffers sessionCapacity n) (omega arith),
+  chain-length (afterSteps (taken (allRights n) ls) (freshBuffers sessionCapacity n)),
+  reading-length n some few (taken (allRights n) ls),
 )
 
 pub transcript-length : (input : List ℕ) → length (transcript input) ≤ textLimit

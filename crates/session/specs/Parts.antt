@@ -19,9 +19,9 @@ use Rattle.replies.specs.Replies.{replyText, replyLine, chainLine}
 use Rattle.session.specs.Transcript.{session}
 
 -- The replies to some lines are in the text, and the chain line of the log that they lead to is left to be put.
-pub record Ran (ls : List Line) (b : Buffers) (text : List ℕ) (b′ : Buffers) (text′ : List ℕ) (at : ℕ) : Type 0 where
-  pub left : Left text 0 (session 1 ls b) text′ at (chainLine (chainReading b′))
-  pub steps : b′ ≡ afterSteps (taken ls) b
+pub record Ran (rights : List ℕ) (ls : List Line) (b : Buffers) (text : List ℕ) (b′ : Buffers) (text′ : List ℕ) (at : ℕ) : Type 0 where
+  pub left : Left text 0 (session rights 1 ls b) text′ at (chainLine (chainReading b′))
+  pub steps : b′ ≡ afterSteps (taken rights ls) b
 
 -- Read chain gives the whole reading.
 pub record Reads (b : Buffers) (out : List ℕ) : Type 0 where
@@ -47,50 +47,50 @@ part-is {b} {out} s after e n q =
     rw (z, e, s .output) (take-append-seam (chainReading b) (drop (length (chainReading b)) out))
 
 -- A session that has come to a line: what is left to be put, and where all lines lead.
-pub record Running (ls : List Line) (b : Buffers) (text : List ℕ) (rest : List Line) (number : ℕ) (b′ : Buffers) (text′ : List ℕ) (at : ℕ) : Type 0 where
-  pub left : Left text 0 (session 1 ls b) text′ at (session number rest b′)
-  pub steps : afterSteps (taken rest) b′ ≡ afterSteps (taken ls) b
+pub record Running (rights : List ℕ) (ls : List Line) (b : Buffers) (text : List ℕ) (rest : List Line) (number : ℕ) (b′ : Buffers) (text′ : List ℕ) (at : ℕ) : Type 0 where
+  pub left : Left text 0 (session rights 1 ls b) text′ at (session rights number rest b′)
+  pub steps : afterSteps (taken rights rest) b′ ≡ afterSteps (taken rights ls) b
 
-pub running-start : (ls : List Line) (b : Buffers) (text : List ℕ) → Running ls b text ls 1 b text 0
-running-start ls b text = record { left = left-all text 0 (session 1 ls b); steps = refl }
+pub running-start : (rights : List ℕ) (ls : List Line) (b : Buffers) (text : List ℕ) → Running rights ls b text ls 1 b text 0
+running-start rights ls b text = record { left = left-all text 0 (session rights 1 ls b); steps = refl }
 
-module _ {ls : List Line} {b : Buffers} {text : List ℕ} {number : ℕ} {b′ : Buffers} {text′ : List ℕ} {at : ℕ} where
-  pub running-room : {l : Line} {rest : List Line} → Running ls b text (l ∷ rest) number b′ text′ at → Room text 0 (session 1 ls b)
-      → Room text′ at (replyLine number (replyText (replyTo (requestOf l) b′)))
+module _ {rights : List ℕ} {ls : List Line} {b : Buffers} {text : List ℕ} {number : ℕ} {b′ : Buffers} {text′ : List ℕ} {at : ℕ} where
+  pub running-room : {l : Line} {rest : List Line} → Running rights ls b text (l ∷ rest) number b′ text′ at → Room text 0 (session rights 1 ls b)
+      → Room text′ at (replyLine number (replyText (replyTo rights (requestOf l) b′)))
   unfolding session
   running-room s room = room-first _ _ (left-room (s .left) room)
 
-  pub running-turn : {l : Line} {rest : List Line} → Running ls b text (l ∷ rest) number b′ text′ at → (b″ : Buffers) (text″ : List ℕ) (at″ : ℕ)
-      → b″ ≡ afterRequest (requestOf l) b′ → Puts text′ at (replyLine number (replyText (replyTo (requestOf l) b′))) text″ at″
-      → Running ls b text rest (number + 1) b″ text″ at″
+  pub running-turn : {l : Line} {rest : List Line} → Running rights ls b text (l ∷ rest) number b′ text′ at → (b″ : Buffers) (text″ : List ℕ) (at″ : ℕ)
+      → b″ ≡ afterRequest rights (requestOf l) b′ → Puts text′ at (replyLine number (replyText (replyTo rights (requestOf l) b′))) text″ at″
+      → Running rights ls b text rest (number + 1) b″ text″ at″
   unfolding session taken
   running-turn {l} {rest} s b″ text″ at″ e p = rw (add-one number, e) (record {
     left = left-turn (s .left) refl p;
-    steps = sym (request-steps (requestOf l) (taken rest) b′) ∙ s .steps;
+    steps = sym (request-steps rights (requestOf l) (taken rights rest) b′) ∙ s .steps;
   })
 
-  pub running-end : Running ls b text [] number b′ text′ at → Ran ls b text b′ text′ at
+  pub running-end : Running rights ls b text [] number b′ text′ at → Ran rights ls b text b′ text′ at
   unfolding session taken afterSteps
   running-end s = record { left = s .left; steps = s .steps }
 
 -- One turn of the loop over the input: the line that begins at i.
-module _ {ls : List Line} {b : Buffers} {text : List ℕ} {number : ℕ} {b′ : Buffers} {text′ : List ℕ} {at : ℕ} (input : List ℕ) (i next : ℕ)
-    {reply : Reply} {b″ : Buffers} (s : Running ls b text (lines (drop i input)) number b′ text′ at) (t : TakesLine input i b′ reply next b″) where
-  here : Running ls b text (t .first ∷ lines (drop next input)) number b′ text′ at
-  here = subst (λ (rest : List Line). Running ls b text rest number b′ text′ at) (t .splits) s
+module _ {rights : List ℕ} {ls : List Line} {b : Buffers} {text : List ℕ} {number : ℕ} {b′ : Buffers} {text′ : List ℕ} {at : ℕ} (input : List ℕ) (i next : ℕ)
+    {reply : Reply} {b″ : Buffers} (s : Running rights ls b text (lines (drop i input)) number b′ text′ at) (t : TakesLine rights input i b′ reply next b″) where
+  here : Running rights ls b text (t .first ∷ lines (drop next input)) number b′ text′ at
+  here = subst (λ (rest : List Line). Running rights ls b text rest number b′ text′ at) (t .splits) s
 
-  pub turn-room : Room text 0 (session 1 ls b) → Room text′ at (replyLine number (replyText reply))
+  pub turn-room : Room text 0 (session rights 1 ls b) → Room text′ at (replyLine number (replyText reply))
   turn-room room = subst (λ (q : Reply). Room text′ at (replyLine number (replyText q))) (sym (t .replies)) (running-room here room)
 
   pub turn : (text″ : List ℕ) (at″ : ℕ) → Puts text′ at (replyLine number (replyText reply)) text″ at″
-      → Running ls b text (lines (drop next input)) (number + 1) b″ text″ at″
+      → Running rights ls b text (lines (drop next input)) (number + 1) b″ text″ at″
   turn text″ at″ p = running-turn here b″ text″ at″ (t .after-it)
       (subst (λ (q : Reply). Puts text′ at (replyLine number (replyText q)) text″ at″) (t .replies) p)
 
-pub turns-end : {ls : List Line} {b : Buffers} {text : List ℕ} {number : ℕ} {b′ : Buffers} {text′ : List ℕ} {at : ℕ} (input : List ℕ) (i : ℕ)
-    → Running ls b text (lines (drop i input)) number b′ text′ at → length input ≤ i → Ran ls b text b′ text′ at
-turns-end {ls} {b} {text} {number} {b′} {text′} {at} input i s past = running-end
-    (subst (λ (rest : List Line). Running ls b text rest number b′ text′ at) (no-lines input i past) s)
+pub turns-end : {rights : List ℕ} {ls : List Line} {b : Buffers} {text : List ℕ} {number : ℕ} {b′ : Buffers} {text′ : List ℕ} {at : ℕ} (input : List ℕ) (i : ℕ)
+    → Running rights ls b text (lines (drop i input)) number b′ text′ at → length input ≤ i → Ran rights ls b text b′ text′ at
+turns-end {rights} {ls} {b} {text} {number} {b′} {text′} {at} input i s past = running-end
+    (subst (λ (rest : List Line). Running rights ls b text rest number b′ text′ at) (no-lines input i past) s)
 
 -- The chain line of equal readings.
 pub room-as : {text words reading : List ℕ} {at : ℕ} → words ≡ reading → Room text at (chainLine reading) → Room text at (chainLine words)

@@ -9,6 +9,7 @@ use Rattle.records.specs.Layout.{clientLimit}
 use Rattle.records.specs.declared.entry.Entry.{Entry}
 use Rattle.chain.specs.declared.answer.Answer.{Answer}
 use Rattle.chain.specs.declared.answer.Answer.the-variants.{Done}
+use Rattle.chain.specs.Rights.{allRights}
 use Rattle.chain.specs.Operations.{stepAnswers, freshAnswer, afterFresh}
 use Rattle.chain.specs.Promises.{after, told, ShowsHistory}
 use Rattle.grammar.specs.declared.Request.{Request}
@@ -36,13 +37,13 @@ writesText (e ∷ es) = (bytes " " ++ (decimal (e .client) ++ (bytes ":" ++ deci
 abbrev pub writesLine : List Entry → List ℕ
 writesLine es = bytes "chain" ++ (writesText es ++ bytes "\n")
 
--- A session of n clients with some lines after the first: the history is the steps of the good lines, from a done fresh on.
+-- A session of n clients, each with all its rights, and some lines after the first: the history is the steps of the good lines, from a done fresh on.
 -- The chain line is written from the journal, which is computed from the steps and their answers alone.
 pub record ShowsSession (n : ℕ) (ls : List Line) (printed : List ℕ) : Type 0 where
   pub begins : freshAnswer n blank ≡ Done
   pub prints : printed ≡
-      replies 1 (map requestOf ls) (stepAnswers (taken ls) (afterFresh n blank)) ++ writesLine (told n blank (taken ls) .accepted)
-  pub shows : ShowsHistory (after n blank (taken ls)) (told n blank (taken ls))
+      replies 1 (map requestOf ls) (stepAnswers (taken (allRights n) ls) (afterFresh n blank)) ++ writesLine (told n blank (taken (allRights n) ls) .accepted)
+  pub shows : ShowsHistory (after n blank (taken (allRights n) ls)) (told n blank (taken (allRights n) ls))
 
 -- Every input is of one of three kinds.
 pub record SessionShowsHistory : Type 0 where

@@ -6,6 +6,7 @@ use lib.ListN.{length}
 use Rattle.text.specs.Bytes.{bytes}
 use Rattle.records.specs.Layout.{clientLimit}
 use Rattle.chain.specs.Steps.{Step}
+use Rattle.chain.specs.Rights.{allRights}
 use Rattle.chain.specs.Operations.{Buffers, stepAnswer, afterStep, afterSteps, stepAnswers, afterFresh, chainReading}
 use Rattle.chain.specs.Promises.{after, told}
 use Rattle.dispatch.specs.Dispatch.{stepOf}
@@ -23,28 +24,30 @@ use Rattle.session.specs.SessionPromise.{replies, writesLine, ShowsSessi
 use Rattle.session.specs.Accepted.{accepted-text}
 
 -- What is printed, from any buffers: the answers of the steps, in order, and the chain that they lead to.
-abbrev shown : ℕ → List Line → Buffers → List ℕ
-shown number ls b = replies number (map requestOf ls) (stepAnswers (taken ls) b) ++ chainLine (chainReading (afterSteps (taken ls) b))
+abbrev shown : List ℕ → ℕ → List Line → Buffers → List ℕ
+shown rights number ls b =
+    replies number (map requestOf ls) (stepAnswers (taken rights ls) b) ++ chainLine (chainReading (afterSteps (taken rights ls) b))
 
 put-before : (first rest chain later : List ℕ) → later ≡ rest ++ chain → first ++ later ≡ (first ++ rest) ++ chain
 put-before first rest chain later e = rw (e, append-assoc first rest chain)
 
-line-printed : (r : Request) (ls : List Line) (number : ℕ) (b : Buffers) (later : List ℕ) → later ≡ shown (suc number) ls (afterRequest r b)
-    → replyLine number (replyText (replyTo r b)) ++ later ≡
-    replies number (r ∷ map requestOf ls) (stepAnswers (requested r ++ taken ls) b) ++ chainLine (chainReading (afterSteps (requested r ++ taken ls) b))
+line-printed : (rights : List ℕ) (r : Request) (ls : List Line) (number : ℕ) (b : Buffers) (later : List ℕ) → later ≡ shown rights (suc number) ls (afterRequest rights r b)
+    → replyLine number (replyText (replyTo rights r b)) ++ later ≡
+    replies number (r ∷ map requestOf ls) (stepAnswers (requested rights r ++ taken rights ls) b) ++ chainLine (chainReading (afterSteps (requested rights r ++ taken rights ls) b))
 unfolding replies stepAnswers afterSteps
-line-printed (Take x) ls number b later e =
-    let b′ : Buffers = afterStep (stepOf x) b in
-    put-before (replyLine number (answerText (stepAnswer (stepOf x) b))) (replies (suc number) (map requestOf ls) (stepAnswers (taken ls) b′))
-    (chainLine (chainReading (afterSteps (taken ls) b′))) later e
-line-printed BadLine ls number b later e =
-    put-before (replyLine number (bytes "bad line")) (replies (suc number) (map requestOf ls) (stepAnswers (taken ls) b))
-    (chainLine (chainReading (afterSteps (taken ls) b))) later e
+line-printed rights (Take x) ls number b later e =
+    let b′ : Buffers = afterStep (stepOf rights x) b in
+    put-before (replyLine number (answerText (stepAnswer (stepOf rights x) b))) (replies (suc number) (map requestOf ls) (stepAnswers (taken rights ls) b′))
+    (chainLine (chainReading (afterSteps (taken rights ls) b′))) later e
+line-printed rights BadLine ls number b later e =
+    put-before (replyLine number (bytes "bad line")) (replies (suc number) (map requestOf ls) (stepAnswers (taken rights ls) b))
+    (chainLine (chainReading (afterSteps (taken rights ls) b))) later e
 
-session-printed : (ls : List Line) (number : ℕ) (b : Buffers) → session number ls b ≡ shown number ls b
+session-printed : (rights : List ℕ) (ls : List Line) (number : ℕ) (b : Buffers) → session rights number ls b ≡ shown rights number ls b
 unfolding session taken replies stepAnswers afterSteps
-session-printed [] number b = refl
-session-printed (l ∷ ls) number b = line-printed (requestOf l) ls number b _ (session-printed ls (suc number) (afterRequest (requestOf l) b))
+session-printed rights [] number b = refl
+session-printed rights (l ∷ ls) number b =
+    line-printed rights (requestOf l) ls number b _ (session-printed rights ls (suc number) (afterRequest rights (requestOf l) b))
 
 module _ (n : ℕ) (some : 1 ≤ n) (few : n ≤ clientLimit) where
   -- The chain line shows the accepted writes that the journal tells.
@@ -58,11 +61,11 @@ module _ (n : ℕ) (some : 1 ≤ n) (few : n ≤ clientLimit) where
   good-session rest h = record {
     begins = begun n some few;
     prints = ap (printed sessionText) (opens-good n some few rest h)
-        ∙ ap (session 1 (lines rest)) (sym (left-by-fresh n some few))
-        ∙ session-printed (lines rest) 1 (afterFresh n blank)
-        ∙ ap (λ (t : List ℕ). replies 1 (map requestOf (lines rest)) (stepAnswers (taken (lines rest)) (afterFresh n blank)) ++ t)
-        (chain-shows (taken (lines rest)));
-    shows = history n some few (taken (lines rest));
+        ∙ ap (session (allRights n) 1 (lines rest)) (sym (left-by-fresh n some few))
+        ∙ session-printed (allRights n) (lines rest) 1 (afterFresh n blank)
+        ∙ ap (λ (t : List ℕ). replies 1 (map requestOf (lines rest)) (stepAnswers (taken (allRights n) (lines rest)) (afterFresh n blank)) ++ t)
+        (chain-shows (taken (allRights n) (lines rest)));
+    shows = history n some few (taken (allRights n) (lines rest));
   }
 
 pub session-shows-history : SessionShowsHistory

@@ -13,18 +13,19 @@ pub fn put_replies(
     from: usize,
     state: &mut [u64],
     entries: &mut [u64],
+    rights: &[u64],
     text: &mut [u8],
 ) -> usize
     requires from { ⌜ from ≤ length (now input) ⌝ }
     requires small { ⌜ length (now input) ≤ 16384 ⌝ }
-    requires room { ⌜ Room (now text) 0 (session 1 (lines (drop from (now input))) (buffers (now state) (now entries))) ⌝ }
-    ensures { λ r. ⌜ Ran (lines (drop from (now (input .entry)))) (buffers (now (state .entry)) (now (entries .entry))) (now (text .entry)) (buffers (now (state .exit)) (now (entries .exit))) (now (text .exit)) r ⌝ }
+    requires room { ⌜ Room (now text) 0 (session (now rights) 1 (lines (drop from (now input))) (buffers (now state) (now entries))) ⌝ }
+    ensures { λ r. ⌜ Ran (now (rights .entry)) (lines (drop from (now (input .entry)))) (buffers (now (state .entry)) (now (entries .entry))) (now (text .entry)) (buffers (now (state .exit)) (now (entries .exit))) (now (text .exit)) r ⌝ }
 {
     let mut at: usize = 0;
     let mut number: u64 = 1;
     let mut i = from;
     while i < input.len() {
-        let taken = requests::line::take_line(input, i, state, entries);
+        let taken = requests::line::take_line(input, i, state, entries, rights);
         let reply = taken.reply;
         at = replies::reply::put_reply_line(text, at, number, reply);
         number += 1;

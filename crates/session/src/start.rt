@@ -8,7 +8,7 @@ ghost use Rattle.requests.specs.Lines.{lines};
 ghost use Rattle.requests.specs.Starts.{Begun};
 ghost use Rattle.session.specs.Transcript.{sessionText, transcript};
 
-// A session on a log of its own.
+// A session on a log of its own, in which each client has all its rights.
 fn put_session(input: &[u8], from: usize, count: u64, text: &mut [u8]) -> usize
     requires begun { ⌜ Begun (now input) count from ⌝ }
     requires room { ⌜ Room (now text) 0 (sessionText count (lines (drop from (now input)))) ⌝ }
@@ -17,8 +17,10 @@ fn put_session(input: &[u8], from: usize, count: u64, text: &mut [u8]) -> usize
     let mut state = [0u64; STATE_LENGTH];
     let mut entries = [0u64; CAPACITY];
     let mut reading = [0u64; CAPACITY];
+    let mut rights = [0u64; rights::LENGTH];
     fresh::fresh(&mut state, &mut entries, count);
-    let at = crate::replies_to::put_replies(input, from, &mut state, &mut entries, text);
+    rights::all::grant_all(&mut rights, count);
+    let at = crate::replies_to::put_replies(input, from, &mut state, &mut entries, &rights, text);
     crate::chain_end::put_chain(&state, &entries, &mut reading, text, at)
 }
 

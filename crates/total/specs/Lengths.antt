@@ -10,6 +10,7 @@ use Rattle.records.specs.Layout.{placeIndex}
 use Rattle.records.specs.Words.{unpackPlace}
 use Rattle.records.specs.WordLaws.{place-fits}
 use Rattle.chain.specs.Buffers.{head, listIn}
+use Rattle.chain.specs.Rights.{allRights}
 use Rattle.chain.specs.Operations.{Buffers, held, afterSteps, freshBuffers, readLedgerPart}
 use Rattle.chain.specs.Values.{sumOf}
 use Rattle.chain.specs.Laws.Values.{sum-bound}
@@ -88,4 +89,4 @@ module _ (b : Buffers) (s : Summable b) where
 pub output-length : (input : List ℕ) → length (output input) ≤ textLimit
 unfolding output
 output-length = printed-length sessionTotal textLimit (omega arith)
-    (λ n ls some few h. log-length (afterSteps (taken ls) (freshBuffers sessionCapacity n)) (summable n some few (taken ls)))
+    (λ n ls some few h. log-length (afterSteps (taken (allRights n) ls) (freshBuffers sessionCapacity n)) (summable n some few (taken (allRights n) ls)))

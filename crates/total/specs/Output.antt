@@ -6,6 +6,7 @@ use Rattle.text.specs.declared.lent.Printed.{Printed}
 use Rattle.text.specs.Bytes.{bytes}
 use Rattle.text.specs.Decimal.{decimal}
 use Rattle.text.specs.Lent.{lentAnswer, lentText}
+use Rattle.chain.specs.Rights.{allRights}
 use Rattle.chain.specs.Operations.{Buffers, held, afterSteps, freshBuffers, readLedgerPart}
 use Rattle.chain.specs.Values.{sumOf}
 use Rattle.amounts.specs.Amounts.{fixed}
@@ -44,9 +45,9 @@ sumAlong (k ∷ ks) b = sumOf (readLedgerPart k b) + sumAlong ks b
 unfoldable pub logText : Buffers → List ℕ
 logText b = ledgerLines (held b .list) b ++ endLines (sumAlong (held b .list) b)
 
--- A session of n clients, on a fresh log, after all its lines.
+-- A session of n clients, each with all its rights, on a fresh log, after all its lines.
 abbrev pub sessionTotal : ℕ → List Line → List ℕ
-sessionTotal n ls = logText (afterSteps (taken ls) (freshBuffers sessionCapacity n))
+sessionTotal n ls = logText (afterSteps (taken (allRights n) ls) (freshBuffers sessionCapacity n))
 
 unfoldable pub output : List ℕ → List ℕ
 output input = printed sessionTotal (opening input)

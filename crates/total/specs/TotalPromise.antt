@@ -8,6 +8,7 @@ use Rattle.records.specs.Layout.{clientLimit}
 use Rattle.records.specs.declared.entry.Entry.{Entry}
 use Rattle.chain.specs.declared.answer.Answer.the-variants.{Done}
 use Rattle.chain.specs.Log.{ofLedger, entryLedger}
+use Rattle.chain.specs.Rights.{allRights}
 use Rattle.chain.specs.Operations.{stepAnswers, freshAnswer, afterFresh}
 use Rattle.chain.specs.Journal.{start, journal}
 use Rattle.chain.specs.Values.{sum, values}
@@ -31,12 +32,12 @@ sumsAlong (k ∷ ks) es = sum (values (ofLedger entryLedger k es)) + sumsAlong k
 
 -- What the journal of a session's history tells, which is computed from the steps and their answers alone.
 abbrev pub listed : ℕ → List Line → List ℕ
-listed n ls = told n blank (taken ls) .listed
+listed n ls = told n blank (taken (allRights n) ls) .listed
 
 abbrev pub accepted : ℕ → List Line → List Entry
-accepted n ls = journal (taken ls) (stepAnswers (taken ls) (afterFresh n blank)) start .accepted
+accepted n ls = journal (taken (allRights n) ls) (stepAnswers (taken (allRights n) ls) (afterFresh n blank)) start .accepted
 
--- A session of n clients with some lines after the first: the history is the steps of the good lines, from a done fresh on.
+-- A session of n clients, each with all its rights, and some lines after the first: the history is the steps of the good lines, from a done fresh on.
 pub record ShowsTotal (n : ℕ) (ls : List Line) (printed : List ℕ) : Type 0 where
   pub begins : freshAnswer n blank ≡ Done
   -- The total is the sum over the accepted writes, whatever the handovers.

@@ -10,6 +10,7 @@ use Rattle.records.specs.declared.entry.Entry.{Entry}
 use Rattle.records.specs.Layout.{clientLimit}
 use Rattle.chain.specs.Log.{ofLedger, entryLedger}
 use Rattle.chain.specs.Steps.{Step}
+use Rattle.chain.specs.Rights.{allRights}
 use Rattle.chain.specs.Operations.{Buffers, held, afterSteps, freshBuffers, afterFresh, readLedgerPart}
 use Rattle.chain.specs.Journal.{Journal, storedWord, chainWord}
 use Rattle.chain.specs.Values.{sum, sumOf, values}
@@ -108,15 +109,15 @@ module _ (n : ℕ) (some : 1 ≤ n) (few : n ≤ clientLimit) where
   unfolding output
   printed-total rest h =
       ap (printed sessionTotal) (opens-good n some few rest h)
-      ∙ ap (λ (d : Buffers). logText (afterSteps (taken (lines rest)) d)) (sym (left-by-fresh n some few))
-      ∙ log-shows n some few (taken (lines rest))
+      ∙ ap (λ (d : Buffers). logText (afterSteps (taken (allRights n) (lines rest)) d)) (sym (left-by-fresh n some few))
+      ∙ log-shows n some few (taken (allRights n) (lines rest))
 
   good-total : (rest : List ℕ) → length (firstLine n ++ rest) ≤ inputLimit → ShowsTotal n (lines rest) (output (firstLine n ++ rest))
   good-total rest h = record {
     begins = begun n some few;
     prints = printed-total rest h;
-    adds-up = adds-up n some few (taken (lines rest));
-    bounded = bounded n some few (taken (lines rest));
+    adds-up = adds-up n some few (taken (allRights n) (lines rest));
+    bounded = bounded n some few (taken (allRights n) (lines rest));
   }
 
 pub total-shows-history : TotalShowsHistory

@@ -14,14 +14,14 @@ ghost use Rattle.total.specs.Output.{logText, sessionTotal, output};
 ghost use Rattle.total.specs.Listing.{Summable};
 
 // Takes the lines from a place of the input on.
-fn run_lines(input: &[u8], from: usize, state: &mut [u64], entries: &mut [u64])
+fn run_lines(input: &[u8], from: usize, state: &mut [u64], entries: &mut [u64], rights: &[u64])
     requires from { ⌜ from ≤ length (now input) ⌝ }
     requires small { ⌜ length (now input) ≤ 16384 ⌝ }
-    ensures { λ r. ⌜ buffers (now (state .exit)) (now (entries .exit)) ≡ afterSteps (taken (lines (drop from (now (input .entry))))) (buffers (now (state .entry)) (now (entries .entry))) ⌝ }
+    ensures { λ r. ⌜ buffers (now (state .exit)) (now (entries .exit)) ≡ afterSteps (taken (now (rights .entry)) (lines (drop from (now (input .entry))))) (buffers (now (state .entry)) (now (entries .entry))) ⌝ }
 {
     let mut i = from;
     while i < input.len() {
-        let taken = requests::line::take_line(input, i, state, entries);
+        let taken = requests::line::take_line(input, i, state, entries, rights);
         i = taken.next;
     }
 }
@@ -35,7 +35,7 @@ fn put_log(state: &[u64], entries: &[u64], text: &mut [u8]) -> usize
     crate::lines::put_end(text, ledgers.at, ledgers.sum)
 }
 
-// A session on a log of its own.
+// A session on a log of its own, in which each client has all its rights.
 fn put_session(input: &[u8], from: usize, count: u64, text: &mut [u8]) -> usize
     requires begun { ⌜ Begun (now input) count from ⌝ }
     requires room { ⌜ Room (now text) 0 (sessionTotal count (lines (drop from (now input)))) ⌝ }
@@ -43,8 +43,10 @@ fn put_session(input: &[u8], from: usize, count: u64, text: &mut [u8]) -> usize
 {
     let mut state = [0u64; STATE_LENGTH];
     let mut entries = [0u64; CAPACITY];
+    let mut rights = [0u64; rights::LENGTH];
     fresh::fresh(&mut state, &mut entries, count);
-    run_lines(input, from, &mut state, &mut entries);
+    rights::all::grant_all(&mut rights, count);
+    run_lines(input, from, &mut state, &mut entries, &rights);
     put_log(&state, &entries, text)
 }
 

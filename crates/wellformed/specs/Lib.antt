@@ -8,3 +8,4 @@ pub mod PartLaws
 pub mod WordLaws
 pub mod VerdictLaws
 pub mod LogVerdict
+pub mod ThirdBuffer

@@ -1,14 +1,19 @@
 -- `cindrolf_write_scores` meets its contract.
 use borrow.Author.Needs.{needs}
-use Rattle.capi.specs.Calls.{step-small, step-called}
 use Rattle.capi.proofs.step.cindrolf_write_scores.Statement.{statement}
 use Rattle.capi.proofs.step.cindrolf_write_scores.Tie as tie
 
-write-scores-requires : tie.Need-write-scores-requires
-write-scores-requires c κs = search needs
+slice-aggregate-grant-all-of : tie.Need-slice-aggregate-grant-all-of
+slice-aggregate-grant-all-of c = search needs
 
-answer-number-requires : tie.Need-answer-number-requires
-answer-number-requires c κs = step-small (c .before .before .before .before .write-scores .ensures)
+grant-all-of-requires : tie.Need-grant-all-of-requires
+grant-all-of-requires c κs = search needs
+
+slice-aggregate-take-scores : tie.Need-slice-aggregate-take-scores
+slice-aggregate-take-scores c = search needs
+
+take-scores-requires : tie.Need-take-scores-requires
+take-scores-requires c κs = search needs
 
 same-length : tie.Need-same-length
 same-length c = search needs
@@ -17,9 +22,16 @@ same-length-2 : tie.Need-same-length-2
 same-length-2 c = search needs
 
 returns : tie.Need-returns
-returns c = step-called (c .before .before .before .before .before .write-scores .ensures) (c .answer-number .ensures)
+returns c = rw (c .before .before .before .before .before .before .before .before .before .grant-all-of .ensures) at (c .before .before .before .before .take-scores .ensures)
 
 pub cindrolf-write-scores-spec : {M : Type 1} → statement M
 cindrolf-write-scores-spec =
     tie.close
-    (tie.spec write-scores-requires answer-number-requires same-length same-length-2 returns)
+    (tie.spec
+    slice-aggregate-grant-all-of
+    grant-all-of-requires
+    slice-aggregate-take-scores
+    take-scores-requires
+    same-length
+    same-length-2
+    returns)

@@ -1,14 +1,19 @@
 -- `take` meets its contract.
 use borrow.Author.Needs.{needs}
-use Rattle.capi.specs.Calls.{step-small, step-called}
 use Rattle.capi.proofs.step.take.Statement.{statement}
 use Rattle.capi.proofs.step.take.Tie as tie
 
-take-step-requires : tie.Need-take-step-requires
-take-step-requires c κs = search needs
+slice-aggregate-grant-all-of : tie.Need-slice-aggregate-grant-all-of
+slice-aggregate-grant-all-of c = search needs
 
-answer-number-requires : tie.Need-answer-number-requires
-answer-number-requires c κs = step-small (c .before .before .before .before .take-step .ensures)
+grant-all-of-requires : tie.Need-grant-all-of-requires
+grant-all-of-requires c κs = search needs
+
+slice-aggregate-take : tie.Need-slice-aggregate-take
+slice-aggregate-take c = search needs
+
+take-requires : tie.Need-take-requires
+take-requires c κs = search needs
 
 same-length : tie.Need-same-length
 same-length c = search needs
@@ -17,9 +22,16 @@ same-length-2 : tie.Need-same-length-2
 same-length-2 c = search needs
 
 returns : tie.Need-returns
-returns c = step-called (c .before .before .before .before .before .take-step .ensures) (c .answer-number .ensures)
+returns c = rw (c .before .before .before .before .before .before .before .before .before .grant-all-of .ensures) at (c .before .before .before .before .take .ensures)
 
 pub take-spec : {M : Type 1} → statement M
 take-spec =
     tie.close
-    (tie.spec take-step-requires answer-number-requires same-length same-length-2 returns)
+    (tie.spec
+    slice-aggregate-grant-all-of
+    grant-all-of-requires
+    slice-aggregate-take
+    take-requires
+    same-length
+    same-length-2
+    returns)

@@ -14,6 +14,9 @@ slice-aggregate-become-leader c =
     let at-entry = c .before .before .before in
     sym (length-take-le 526 (now (at-entry .args .state)) (at-entry .pre))
 
+slice-aggregate-become-leader-2 : tie.Need-slice-aggregate-become-leader-2
+slice-aggregate-become-leader-2 c = search needs
+
 become-leader-requires : tie.Need-become-leader-requires
 become-leader-requires c κs = search needs
 
@@ -32,6 +35,7 @@ become-on-short-spec =
     (tie.spec
     slice-relend-prefix-become-leader
     slice-aggregate-become-leader
+    slice-aggregate-become-leader-2
     become-leader-requires
     same-length
     same-length-2

@@ -23,10 +23,10 @@ returns : tie.Need-returns
 returns c =
     let at-take-step = c .before .before .before .before in
     let at-request = at-take-step .before .before .before .before in
-    rw (at-request .request .given .1) (took _ _ _ _ _ (at-take-step .take-step .ensures))
+    rw (at-request .request .given .1) (took _ _ _ _ _ _ (at-take-step .take-step .ensures))
 
 returns-2 : tie.Need-returns-2
-returns-2 c = rw (c .enum-told .given .1) (took-none _ _)
+returns-2 c = rw (c .enum-told .given .1) (took-none _ _ _)
 
 pub answer-request-spec : {M : Type 1} → statement M
 answer-request-spec =

@@ -22,8 +22,8 @@ request-of-requires c κs = search needs
 answer-request-requires : tie.Need-answer-request-requires
 answer-request-requires c κs = search needs
 
-add-t9 : tie.Need-add-t9
-add-t9 c = search needs
+add-t10 : tie.Need-add-t10
+add-t10 c = search needs
 
 same-length : tie.Need-same-length
 same-length c = search needs
@@ -35,8 +35,8 @@ returns : tie.Need-returns
 returns c =
     let at-request-of = c .before .before .before .before .before .before .before in
     let at-index-from = at-request-of .before .before in
-    let at-entry = at-index-from .before .before .before .before in
-    takes-line _ _ _ (at-entry .pre .0) (at-index-from .index-from .ensures .0) (at-index-from .index-from .ensures .1) _
+    let at-entry = at-index-from .before .before .before .before .before in
+    takes-line _ _ _ _ (at-entry .pre .0) (at-index-from .index-from .ensures .0) (at-index-from .index-from .ensures .1) _
     (at-request-of .request-of .ensures) (c .before .before .before .before .answer-request .ensures)
 
 pub take-line-spec : {M : Type 1} → statement M
@@ -49,7 +49,7 @@ take-line-spec =
     part-request-of-end
     request-of-requires
     answer-request-requires
-    add-t9
+    add-t10
     same-length
     same-length-2
     returns)

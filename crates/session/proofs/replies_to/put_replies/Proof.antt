@@ -11,29 +11,29 @@ use Rattle.session.proofs.replies_to.put_replies.Statement.{statement}
 use Rattle.session.proofs.replies_to.put_replies.Tie as tie
 
 abbrev Inv-loop : tie.InvT-loop
-Inv-loop input from state₀ entries₀ text₀ at₀ number₀ i₀ state entries text at number i =
+Inv-loop input from state₀ entries₀ rights text₀ at₀ number₀ i₀ state entries text at number i =
     (i ≤ length input + 1)
     × (number ≤ i + 1)
     × (length state ≡ length state₀)
     × (length entries ≡ length entries₀)
-    × Running (lines (drop from input)) (buffers state₀ entries₀) text₀ (lines (drop i input)) number (buffers state entries) text at
+    × Running rights (lines (drop from input)) (buffers state₀ entries₀) text₀ (lines (drop i input)) number (buffers state entries) text at
 
 abbrev μ-loop : tie.MeasureT-loop
-μ-loop input from state₀ entries₀ text₀ at₀ number₀ i₀ state entries text at number i = length input + 1 - i
+μ-loop input from state₀ entries₀ rights text₀ at₀ number₀ i₀ state entries text at number i = length input + 1 - i
 
 loop-holds : tie.Need-loop-holds Inv-loop μ-loop
-loop-holds c = (omega arith, omega arith, omega arith, omega arith, running-start _ _ _)
+loop-holds c = (omega arith, omega arith, omega arith, omega arith, running-start _ _ _ _)
 
 take-line-requires : tie.Need-take-line-requires Inv-loop μ-loop
-take-line-requires c κs = (c .before .before .loop-test .taken, c .before .before .before .before .before .before .before .before .pre .1 .0)
+take-line-requires c κs = (c .before .before .loop-test .taken, c .before .before .before .before .before .before .before .before .before .pre .1 .0)
 
 put-reply-line-requires : tie.Need-put-reply-line-requires Inv-loop μ-loop
 put-reply-line-requires c κs =
     let at-loop = c .before .before .before .before .before .before .before .before .before in
-    turn-room _ _ _ (at-loop .loop .inv .4) (c .before .before .before .before .before .take-line .ensures) (at-loop .before .before .before .before .before .pre .1 .1)
+    turn-room _ _ _ (at-loop .loop .inv .4) (c .before .before .before .before .before .take-line .ensures) (at-loop .before .before .before .before .before .before .pre .1 .1)
 
 add-number : tie.Need-add-number Inv-loop μ-loop
-add-number c = omega (arith, c .before .before .before .before .before .before .before .before .before .before .before .before .loop .inv .1, c .before .before .before .before .before .before .before .before .before .before .before .before .before .before .before .before .before .pre .1 .0, c .before .before .before .before .before .before .before .before .before .before .before .loop-test .taken)
+add-number c = omega (arith, c .before .before .before .before .before .before .before .before .before .before .before .before .loop .inv .1, c .before .before .before .before .before .before .before .before .before .before .before .before .before .before .before .before .before .before .pre .1 .0, c .before .before .before .before .before .before .before .before .before .before .before .loop-test .taken)
 
 loop-less : tie.Need-loop-less Inv-loop μ-loop
 loop-less c = omega (arith, c .before .before .before .before .before .before .before .before .take-line .ensures .onward, c .before .before .before .before .before .before .before .before .take-line .ensures .within)

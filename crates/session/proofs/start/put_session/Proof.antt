@@ -16,21 +16,30 @@ slice-aggregate-fresh-2 c = search needs
 fresh-requires : tie.Need-fresh-requires
 fresh-requires c κs = search needs
 
+slice-aggregate-grant-all : tie.Need-slice-aggregate-grant-all
+slice-aggregate-grant-all c = search needs
+
+grant-all-requires : tie.Need-grant-all-requires
+grant-all-requires c κs = search needs
+
 slice-aggregate-put-replies : tie.Need-slice-aggregate-put-replies
 slice-aggregate-put-replies c = search needs
 
 slice-aggregate-put-replies-2 : tie.Need-slice-aggregate-put-replies-2
 slice-aggregate-put-replies-2 c = search needs
 
+slice-aggregate-put-replies-3 : tie.Need-slice-aggregate-put-replies-3
+slice-aggregate-put-replies-3 c = search needs
+
 put-replies-requires : tie.Need-put-replies-requires
 put-replies-requires c κs =
-    let at-fresh = c .before .before .before .before .before in
+    let at-fresh = c .before .before .before .before .before .before .before .before .before in
     let begun = at-fresh .before .before .before .before .before .pre .0 in (
       begun .within,
       (
         begun .small,
-        fresh-room _ (begun .some) (begun .few) _ _ _ (fresh-is _ (begun .some) (begun .few) _ _ _ _ refl refl (at-fresh .fresh .ensures))
-            (at-fresh .before .before .before .before .before .pre .1),
+        fresh-room _ (begun .some) (begun .few) _ _ _ _ (c .before .before .before .before .before .grant-all .ensures)
+            (fresh-is _ (begun .some) (begun .few) _ _ _ _ refl refl (at-fresh .fresh .ensures)) (at-fresh .before .before .before .before .before .pre .1),
       ),
     )
 
@@ -46,11 +55,12 @@ slice-aggregate-put-chain-3 c = search needs
 put-chain-requires : tie.Need-put-chain-requires
 put-chain-requires c κs =
     let at-put-replies = c .before .before .before .before .before .before .before .before in
-    let at-fresh = at-put-replies .before .before .before .before .before .before in
+    let at-fresh = at-put-replies .before .before .before .before .before .before .before .before .before .before in
+    let all = at-put-replies .before .before .before .before .before .before .grant-all .ensures in
     let begun = at-fresh .before .before .before .before .before .pre .0 in
     let is = fresh-is _ (begun .some) (begun .few) _ _ _ _ refl refl (at-fresh .fresh .ensures) in (
-      end-reads _ (begun .some) (begun .few) is (at-put-replies .put-replies .ensures) _ (omega arith),
-      end-room _ (begun .some) (begun .few) is (at-put-replies .put-replies .ensures) (at-fresh .before .before .before .before .before .pre .1),
+      end-reads _ (begun .some) (begun .few) all is (at-put-replies .put-replies .ensures) _ (omega arith),
+      end-room _ (begun .some) (begun .few) all is (at-put-replies .put-replies .ensures) (at-fresh .before .before .before .before .before .pre .1),
     )
 
 same-length : tie.Need-same-length
@@ -60,10 +70,10 @@ returns : tie.Need-returns
 returns c =
     let at-put-chain = c .before .before .before in
     let at-put-replies = at-put-chain .before .before .before .before .before .before .before .before .before in
-    let at-fresh = at-put-replies .before .before .before .before .before .before in
+    let at-fresh = at-put-replies .before .before .before .before .before .before .before .before .before .before in
     let begun = at-fresh .before .before .before .before .before .pre .0 in
-    end-puts _ (begun .some) (begun .few) (fresh-is _ (begun .some) (begun .few) _ _ _ _ refl refl (at-fresh .fresh .ensures))
-    (at-put-replies .put-replies .ensures) _ _ (at-put-chain .put-chain .ensures)
+    end-puts _ (begun .some) (begun .few) (at-put-replies .before .before .before .before .before .before .grant-all .ensures)
+    (fresh-is _ (begun .some) (begun .few) _ _ _ _ refl refl (at-fresh .fresh .ensures)) (at-put-replies .put-replies .ensures) _ _ (at-put-chain .put-chain .ensures)
 
 pub put-session-spec : {M : Type 1} → statement M
 put-session-spec =
@@ -72,8 +82,11 @@ put-session-spec =
     slice-aggregate-fresh
     slice-aggregate-fresh-2
     fresh-requires
+    slice-aggregate-grant-all
+    grant-all-requires
     slice-aggregate-put-replies
     slice-aggregate-put-replies-2
+    slice-aggregate-put-replies-3
     put-replies-requires
     slice-aggregate-put-chain
     slice-aggregate-put-chain-2

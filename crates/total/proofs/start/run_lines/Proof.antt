@@ -11,20 +11,20 @@ use Rattle.total.proofs.start.run_lines.Statement.{statement}
 use Rattle.total.proofs.start.run_lines.Tie as tie
 
 abbrev Inv-loop : tie.InvT-loop
-Inv-loop input from state₀ entries₀ i₀ state entries i =
+Inv-loop input from state₀ entries₀ rights i₀ state entries i =
     (i ≤ length input + 1)
     × (length state ≡ length state₀)
     × (length entries ≡ length entries₀)
-    × (afterSteps (taken (lines (drop i input))) (buffers state entries) ≡ afterSteps (taken (lines (drop from input))) (buffers state₀ entries₀))
+    × (afterSteps (taken rights (lines (drop i input))) (buffers state entries) ≡ afterSteps (taken rights (lines (drop from input))) (buffers state₀ entries₀))
 
 abbrev μ-loop : tie.MeasureT-loop
-μ-loop input from state₀ entries₀ i₀ state entries i = length input + 1 - i
+μ-loop input from state₀ entries₀ rights i₀ state entries i = length input + 1 - i
 
 loop-holds : tie.Need-loop-holds Inv-loop μ-loop
 loop-holds c = (omega arith, omega arith, omega arith, refl)
 
 take-line-requires : tie.Need-take-line-requires Inv-loop μ-loop
-take-line-requires c κs = (c .before .before .loop-test .taken, c .before .before .before .before .before .before .before .pre .1)
+take-line-requires c κs = (c .before .before .loop-test .taken, c .before .before .before .before .before .before .before .before .pre .1)
 
 loop-less : tie.Need-loop-less Inv-loop μ-loop
 loop-less c = omega (arith, c .before .before .before .before .take-line .ensures .onward, c .before .before .before .before .take-line .ensures .within)
@@ -47,7 +47,7 @@ same-length-2 : tie.Need-same-length-2 Inv-loop μ-loop
 same-length-2 c = c .before .loop .inv .2
 
 returns : tie.Need-returns Inv-loop μ-loop
-returns c = sym (steps-end _ _ _ (c .loop-test .left)) ∙ c .before .loop .inv .3
+returns c = sym (steps-end _ _ _ _ (c .loop-test .left)) ∙ c .before .loop .inv .3
 
 pub run-lines-spec : {M : Type 1} → statement M
 run-lines-spec =

@@ -1,0 +1,27 @@
+// What the checks of every step begin with: the lengths of all three buffers, and then their contents.
+use chain::answer::Refusal;
+use chain::answer::Verdict;
+ghost use mathlib.Core.Path.{_≡_};
+ghost use mathlib.Core.List.{[]};
+ghost use Rattle.chain.specs.Verdicts.{verdict};
+ghost use Rattle.chain.specs.Operations.{buffers, lentChecks};
+
+pub fn lent_verdict(state: &[u64], entries: &[u64], rights: &[u64]) -> Verdict
+    ensures { λ r. ⌜ r ≡ verdict (lentChecks (now (rights .entry)) (buffers (now (state .entry)) (now (entries .entry))) []) ⌝ }
+{
+    if rights.len() != crate::LENGTH {
+        return Verdict::Refuse(Refusal::WrongLength);
+    }
+    let v = wellformed::log_verdict(state, entries);
+    match v {
+        Verdict::Refuse(r) => Verdict::Refuse(r),
+        Verdict::Pass => {
+            let h = records::head::load_head(state);
+            if crate::form::rights_fit(rights, h.client_count) {
+                Verdict::Pass
+            } else {
+                Verdict::Refuse(Refusal::NotWellFormed)
+            }
+        }
+    }
+}
