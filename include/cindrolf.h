@@ -2,12 +2,14 @@
  * puts it, this header and a file for pkg-config below PREFIX.
  *
  * A log lives in two buffers of 64-bit words that the caller lends, one for the state and one for the entries. Nobody else writes them.
- * Persist both together after every step that is not refused. Marks, for those who keep any, are a third such buffer.
+ * Persist both together after every step that is not refused. Marks, for those who keep any, are a third such buffer. Rights, for those
+ * who limit their clients, are another, which is only read.
  *
  * Buffers of any length and content are answered, and so is every number. A null pointer with length 0 is an empty buffer; as state,
- * entries or marks it gives refusal 1, as every wrong length does. What the caller answers for: any other pointer is not null, is aligned
- * for uint64_t (that to scores for uint16_t) and is valid for as many words or scores as the length beside it says; the buffers of one call
- * do not overlap: state, entries, marks, output and scores are separate pieces of memory; and no other thread uses them during the call.
+ * entries, marks or rights it gives refusal 1, as every wrong length does. What the caller answers for: any other pointer is not null, is
+ * aligned for uint64_t (that to scores for uint16_t) and is valid for as many words or scores as the length beside it says; the buffers of
+ * one call do not overlap: state, entries, marks, rights, output and scores are separate pieces of memory; and no other thread uses them
+ * during the call.
  *
  * Rust declares the same functions in an `extern "C"` block, and the structs as #[repr(C)].
  */
@@ -38,6 +40,23 @@ uint64_t cindrolf_version(void);
 #define CINDROLF_MARK_WORDS 64
 #define CINDROLF_MARKS_LIMIT 32
 
+/* The length of the rights buffer, in words: one for each client that a log can have. */
+#define CINDROLF_RIGHTS_WORDS 16
+
+/* The rights in a client's word: one for each kind of step, in the order of the steps' numbers below. Either write needs
+ * CINDROLF_RIGHT_WRITE. */
+#define CINDROLF_RIGHT_NAME (UINT64_C(1) << 63)
+#define CINDROLF_RIGHT_BECOME (UINT64_C(1) << 62)
+#define CINDROLF_RIGHT_ABDICATE (UINT64_C(1) << 61)
+#define CINDROLF_RIGHT_FETCH (UINT64_C(1) << 60)
+#define CINDROLF_RIGHT_CLOSE_LAST (UINT64_C(1) << 59)
+#define CINDROLF_RIGHT_FINISH (UINT64_C(1) << 58)
+#define CINDROLF_RIGHT_CREATE (UINT64_C(1) << 57)
+#define CINDROLF_RIGHT_APPEND (UINT64_C(1) << 56)
+#define CINDROLF_RIGHT_WRITE (UINT64_C(1) << 55)
+#define CINDROLF_RIGHT_CLOSE_OWN (UINT64_C(1) << 54)
+#define CINDROLF_ALL_RIGHTS UINT64_C(0xFFC0000000000000)
+
 /* The most scores that one write takes, and the highest score. */
 #define CINDROLF_SCORES_LIMIT 4000
 #define CINDROLF_HIGHEST_SCORE 372
@@ -65,8 +84,8 @@ static inline uint64_t cindrolf_answer_entry(uint64_t answer) { return (answer -
 static inline uint64_t cindrolf_answer_place(uint64_t answer) { return answer & 65535; }
 
 /* The refusals. The first that applies is given; it changes no word of any buffer. */
-#define CINDROLF_REFUSAL_WRONG_LENGTH UINT64_C(1)       /* state, entries or marks has another length than those above */
-#define CINDROLF_REFUSAL_NOT_WELL_FORMED UINT64_C(2)    /* the buffers hold no log, or no marks of this log */
+#define CINDROLF_REFUSAL_WRONG_LENGTH UINT64_C(1)       /* state, entries, marks or rights has another length than those above */
+#define CINDROLF_REFUSAL_NOT_WELL_FORMED UINT64_C(2)    /* the buffers hold no log, or no marks or rights of this log */
 #define CINDROLF_REFUSAL_UNKNOWN_CLIENT UINT64_C(3)     /* the client is not below the client count */
 #define CINDROLF_REFUSAL_ALREADY_NAMED UINT64_C(4)      /* the client is the named leader */
 #define CINDROLF_REFUSAL_ALREADY_LEADS UINT64_C(5)      /* the client leads already */
@@ -88,6 +107,7 @@ static inline uint64_t cindrolf_answer_place(uint64_t answer) { return answer & 
 #define CINDROLF_REFUSAL_MARK_NAME_TAKEN UINT64_C(21)   /* a mark of this name is kept already, or the name is all zero */
 #define CINDROLF_REFUSAL_MARKS_FULL UINT64_C(22)        /* there are 32 marks */
 #define CINDROLF_REFUSAL_MARK_NOT_KEPT UINT64_C(23)     /* no mark of this name is kept */
+#define CINDROLF_REFUSAL_MISSING_RIGHT UINT64_C(24)     /* the client lacks the right to this step */
 
 /* What cindrolf_advise answers where it does not refuse: the number of a step, or that there is none to take. The steps are numbered in
  * this order. Name is never advised. */
@@ -112,11 +132,12 @@ static inline uint64_t cindrolf_word_value(uint64_t word) { return word & ((UINT
  * A refusal (1 or 17) changes nothing. */
 uint64_t cindrolf_fresh(uint64_t *state, size_t state_length, uint64_t *entries, size_t entries_length, uint64_t client_count);
 
-/* Whether the buffers have the right lengths and hold a log: true exactly where no operation gives refusal 1 or 2. It changes nothing. */
+/* Whether the buffers have the right lengths and hold a log: true exactly where no operation gives refusal 1 or 2 for these two. It changes
+ * nothing. */
 bool cindrolf_well_formed(const uint64_t *state, size_t state_length, const uint64_t *entries, size_t entries_length);
 
 /* The steps. Each first gives refusal 1, 2 or 3 where one applies, then those named at the step, in their order. A refusal changes
- * nothing. */
+ * nothing. No rights are lent: it is as if each client had all of them. */
 
 /* The client becomes the named leader: done, or refusal 4. */
 uint64_t cindrolf_name(uint64_t *state, size_t state_length, uint64_t *entries, size_t entries_length, uint64_t client);
@@ -162,10 +183,39 @@ uint64_t cindrolf_write_scores(uint64_t *state, size_t state_length, uint64_t *e
  * the client stops leading. Or refusal 7, 8 or 9. */
 uint64_t cindrolf_close_own(uint64_t *state, size_t state_length, uint64_t *entries, size_t entries_length, uint64_t client);
 
+/* The same steps under rights: a buffer of CINDROLF_RIGHTS_WORDS words that is only read, in which the word of client c is rights[c]. A bit
+ * that is no right, and any bit in a word from the client count on, makes it not well formed (2). The lengths of all three buffers come
+ * before the words of any. Refusal 24, a missing right, comes after 3, and with scores after 19; then come those that the step names above.
+ * With all ten rights of each client below the client count a step takes and answers as above. One right more for such a client changes
+ * nothing of a step that was not refused by 24. The log keeps no rights: each step goes by those that are lent with it. */
+uint64_t cindrolf_name_with(uint64_t *state, size_t state_length, uint64_t *entries, size_t entries_length, const uint64_t *rights,
+                            size_t rights_length, uint64_t client);
+uint64_t cindrolf_become_with(uint64_t *state, size_t state_length, uint64_t *entries, size_t entries_length, const uint64_t *rights,
+                              size_t rights_length, uint64_t client);
+uint64_t cindrolf_abdicate_with(uint64_t *state, size_t state_length, uint64_t *entries, size_t entries_length, const uint64_t *rights,
+                                size_t rights_length, uint64_t client);
+uint64_t cindrolf_fetch_with(uint64_t *state, size_t state_length, uint64_t *entries, size_t entries_length, const uint64_t *rights,
+                             size_t rights_length, uint64_t client);
+uint64_t cindrolf_close_last_with(uint64_t *state, size_t state_length, uint64_t *entries, size_t entries_length, const uint64_t *rights,
+                                  size_t rights_length, uint64_t client);
+uint64_t cindrolf_finish_with(uint64_t *state, size_t state_length, uint64_t *entries, size_t entries_length, const uint64_t *rights,
+                              size_t rights_length, uint64_t client);
+uint64_t cindrolf_create_with(uint64_t *state, size_t state_length, uint64_t *entries, size_t entries_length, const uint64_t *rights,
+                              size_t rights_length, uint64_t client);
+uint64_t cindrolf_append_with(uint64_t *state, size_t state_length, uint64_t *entries, size_t entries_length, const uint64_t *rights,
+                              size_t rights_length, uint64_t client);
+uint64_t cindrolf_write_with(uint64_t *state, size_t state_length, uint64_t *entries, size_t entries_length, const uint64_t *rights,
+                             size_t rights_length, uint64_t client, uint64_t value);
+uint64_t cindrolf_write_scores_with(uint64_t *state, size_t state_length, uint64_t *entries, size_t entries_length, const uint64_t *rights,
+                                    size_t rights_length, uint64_t client, const uint16_t *scores, size_t scores_length);
+uint64_t cindrolf_close_own_with(uint64_t *state, size_t state_length, uint64_t *entries, size_t entries_length, const uint64_t *rights,
+                                 size_t rights_length, uint64_t client);
+
 /* The step that a client should take next, as numbered above; CINDROLF_NO_STEP where another client is named and this one does not lead; or
  * refusal 1, 2 or 3. It changes nothing. On a log that began with cindrolf_fresh, with two ledger numbers and one entry left, a named leader
- * that takes these steps has a write accepted at the tenth or earlier, as long as no other client steps, nobody is named, and what it
- * writes is neither too wide nor refused for its scores. Limits are not looked at: create and write are advised where refusal 10 or 13 waits. */
+ * that takes these steps has a write accepted at the tenth or earlier, as long as no other client steps, nobody is named, what it writes
+ * is neither too wide nor refused for its scores, and it lacks no right. Limits and rights are not looked at: create and write are advised
+ * where refusal 10 or 13 waits. */
 uint64_t cindrolf_advise(const uint64_t *state, size_t state_length, const uint64_t *entries, size_t entries_length, uint64_t client);
 
 /* One ledger's part of the entry buffer: the words entries[start] to entries[start + count - 1]. Both are 0 where it is empty. */

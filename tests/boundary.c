@@ -1,6 +1,6 @@
 /* The version of the library, null pointers with length 0, which every function takes for an empty buffer, an empty ledger that
  * its leader closes, the limits of lent scores, wide values, the numbers and places that writes answer, those of advised steps,
- * and marks. It compiles as C and as C++. */
+ * marks, and rights. It compiles as C and as C++. */
 #include "cindrolf.h"
 
 #include <inttypes.h>
@@ -13,6 +13,7 @@ static uint64_t state[CINDROLF_STATE_WORDS];
 static uint64_t entries[CINDROLF_ENTRY_WORDS];
 static uint16_t scores[CINDROLF_SCORES_LIMIT + 1];
 static uint64_t marks[CINDROLF_MARK_WORDS + 1];
+static uint64_t rights[CINDROLF_RIGHTS_WORDS + 1];
 static int wrong = 0;
 
 static void expect(const char *what, uint64_t given, uint64_t expected) {
@@ -40,6 +41,35 @@ static const struct {
     {"append", cindrolf_append},
     {"close own", cindrolf_close_own},
 };
+
+/* The steps under rights that take one number, and the bit that each needs. */
+typedef uint64_t operation_with(uint64_t *, size_t, uint64_t *, size_t, const uint64_t *, size_t, uint64_t);
+
+static const struct {
+    const char *name;
+    operation *call;
+    operation_with *with;
+    uint64_t right;
+} steps[] = {
+    {"name", cindrolf_name, cindrolf_name_with, UINT64_C(0x8000000000000000)},
+    {"become", cindrolf_become, cindrolf_become_with, UINT64_C(0x4000000000000000)},
+    {"abdicate", cindrolf_abdicate, cindrolf_abdicate_with, UINT64_C(0x2000000000000000)},
+    {"fetch", cindrolf_fetch, cindrolf_fetch_with, UINT64_C(0x1000000000000000)},
+    {"close last", cindrolf_close_last, cindrolf_close_last_with, UINT64_C(0x0800000000000000)},
+    {"finish", cindrolf_finish, cindrolf_finish_with, UINT64_C(0x0400000000000000)},
+    {"create", cindrolf_create, cindrolf_create_with, UINT64_C(0x0200000000000000)},
+    {"append", cindrolf_append, cindrolf_append_with, UINT64_C(0x0100000000000000)},
+    {"close own", cindrolf_close_own, cindrolf_close_own_with, UINT64_C(0x0040000000000000)},
+};
+
+/* Every step refuses these buffers, by whatever client, and whatever its scores. */
+static void refuse_steps(uint64_t *s, size_t s_length, uint64_t *e, size_t e_length, const uint64_t *r, size_t r_length, uint64_t answer) {
+    for (size_t i = 0; i < sizeof steps / sizeof steps[0]; i++)
+        expect(steps[i].name, steps[i].with(s, s_length, e, e_length, r, r_length, 9), answer);
+    expect("write", cindrolf_write_with(s, s_length, e, e_length, r, r_length, 9, UINT64_MAX), answer);
+    expect("write scores", cindrolf_write_scores_with(s, s_length, e, e_length, r, r_length, 9, scores, 1), answer);
+    expect("write no scores", cindrolf_write_scores_with(s, s_length, e, e_length, r, r_length, 9, NULL, 0), answer);
+}
 
 /* Every call on marks refuses these buffers by 1. */
 static void refuse_marks(const uint64_t *s, size_t s_length, const uint64_t *e, size_t e_length, uint64_t *m, size_t m_length) {
@@ -79,6 +109,8 @@ static void refuse(uint64_t *s, size_t s_length, uint64_t *e, size_t e_length) {
     expect("read chain, no output", cindrolf_read_chain(s, s_length, e, e_length, NULL, 0).answer, WRONG_LENGTH);
     refuse_marks(s, s_length, e, e_length, marks, CINDROLF_MARK_WORDS);
     refuse_marks(s, s_length, e, e_length, NULL, 0);
+    refuse_steps(s, s_length, e, e_length, rights, CINDROLF_RIGHTS_WORDS, WRONG_LENGTH);
+    refuse_steps(s, s_length, e, e_length, NULL, 0, WRONG_LENGTH);
 }
 
 /* A write of so many of the scores. Client 0 leads and has its ledger listed, client 1 does not lead, and there is no other. */
@@ -385,6 +417,149 @@ static void check_marks(void) {
     expect("old marks on a new log", drop_mark(WASH), CINDROLF_REFUSED + CINDROLF_REFUSAL_NOT_WELL_FORMED);
 }
 
+/* The rights from here on: all of client 0 and of client 1, without some of those of client 1. */
+static void lend_without(uint64_t missing) {
+    memset(rights, 0, CINDROLF_RIGHTS_WORDS * sizeof rights[0]);
+    rights[0] = CINDROLF_ALL_RIGHTS;
+    rights[1] = CINDROLF_ALL_RIGHTS & ~missing;
+}
+
+static uint64_t take_with(operation_with *step, uint64_t client) {
+    return step(state, CINDROLF_STATE_WORDS, entries, CINDROLF_ENTRY_WORDS, rights, CINDROLF_RIGHTS_WORDS, client);
+}
+
+static uint64_t write_with(uint64_t client, uint64_t value) {
+    return cindrolf_write_with(state, CINDROLF_STATE_WORDS, entries, CINDROLF_ENTRY_WORDS, rights, CINDROLF_RIGHTS_WORDS, client, value);
+}
+
+static uint64_t write_scores_with(uint64_t client, const uint16_t *list, size_t count) {
+    return cindrolf_write_scores_with(state, CINDROLF_STATE_WORDS, entries, CINDROLF_ENTRY_WORDS, rights, CINDROLF_RIGHTS_WORDS, client, list,
+                                      count);
+}
+
+#define MISSING_RIGHT (CINDROLF_REFUSED + 24)
+
+static void check_right_bits(void) {
+    const uint64_t rows[] = {CINDROLF_RIGHT_NAME,       CINDROLF_RIGHT_BECOME, CINDROLF_RIGHT_ABDICATE, CINDROLF_RIGHT_FETCH,
+                             CINDROLF_RIGHT_CLOSE_LAST, CINDROLF_RIGHT_FINISH, CINDROLF_RIGHT_CREATE,   CINDROLF_RIGHT_APPEND,
+                             CINDROLF_RIGHT_CLOSE_OWN};
+    uint64_t all = CINDROLF_RIGHT_WRITE;
+    for (size_t i = 0; i < sizeof steps / sizeof steps[0]; i++) {
+        expect(steps[i].name, rows[i], steps[i].right);
+        all |= rows[i];
+    }
+    expect("the right to write", CINDROLF_RIGHT_WRITE, UINT64_C(0x0080000000000000));
+    expect("all rights", CINDROLF_ALL_RIGHTS, all);
+}
+
+/* A guest, client 1, that leads. It goes on writing, to its next ledger too, and is not named again once client 0 is. */
+static void check_guest(void) {
+    cindrolf_fresh(state, CINDROLF_STATE_WORDS, entries, CINDROLF_ENTRY_WORDS, 2);
+    lend_without(0);
+    operation_with *lead[] = {cindrolf_name_with, cindrolf_become_with, cindrolf_fetch_with, cindrolf_create_with, cindrolf_append_with};
+    for (size_t i = 0; i < sizeof lead / sizeof lead[0]; i++)
+        expect("a step to the lead", take_with(lead[i], 1), CINDROLF_DONE);
+    lend_without(CINDROLF_RIGHT_NAME | CINDROLF_RIGHT_BECOME);
+    expect_written("the guest writes", write_with(1, 7), 0, 0);
+    expect("client 0 is named", take_with(cindrolf_name_with, 0), CINDROLF_DONE);
+    expect("the guest is named again", take_with(cindrolf_name_with, 1), MISSING_RIGHT);
+    expect_written("the guest goes on", write_with(1, 8), 1, 1);
+    expect("it closes its ledger", take_with(cindrolf_close_own_with, 1), CINDROLF_DONE);
+    expect("it creates another", take_with(cindrolf_create_with, 1), CINDROLF_DONE);
+    expect("it appends it", take_with(cindrolf_append_with, 1), CINDROLF_DONE);
+    expect_written("it writes to it", write_with(1, 9), 2, 0);
+    expect("it abdicates", take_with(cindrolf_abdicate_with, 1), CINDROLF_DONE);
+    expect("it leads again", take_with(cindrolf_become_with, 1), MISSING_RIGHT);
+    lend_without(CINDROLF_RIGHT_NAME);
+    expect("it leads again, not named", take_with(cindrolf_become_with, 1), CINDROLF_REFUSED + CINDROLF_REFUSAL_NOT_NAMED);
+}
+
+/* A step without its right, with no other, and with all, on the log as it is; the plain step answers as the last two. */
+static void check_one_right(operation *call, operation_with *with, uint64_t right, uint64_t client) {
+    static uint64_t before[CINDROLF_STATE_WORDS], after[CINDROLF_STATE_WORDS];
+    const uint64_t lent[] = {CINDROLF_ALL_RIGHTS & ~right, right, CINDROLF_ALL_RIGHTS};
+    memcpy(before, state, sizeof state);
+    uint64_t answer = call(state, CINDROLF_STATE_WORDS, entries, CINDROLF_ENTRY_WORDS, client);
+    memcpy(after, state, sizeof state);
+    for (size_t i = 0; i < sizeof lent / sizeof lent[0]; i++) {
+        memcpy(state, before, sizeof state);
+        rights[client] = lent[i];
+        expect("the answer", take_with(with, client), i == 0 ? MISSING_RIGHT : answer);
+        expect("its words", (uint64_t)(memcmp(i == 0 ? before : after, state, sizeof state) != 0), 0);
+        expect("its rights", rights[client], lent[i]);
+    }
+}
+
+/* Along a history that takes each of these steps: every step by client 0, most of which a check of their own refuses, then the history's. */
+static void check_each_right(void) {
+    const struct {
+        size_t step;
+        uint64_t client;
+    } history[] = {{1, 0}, {3, 0}, {6, 0}, {7, 0}, {0, 1}, {1, 1}, {3, 1}, {4, 1}, {5, 1}, {6, 1}, {7, 1}, {8, 1}, {2, 0}};
+    cindrolf_fresh(state, CINDROLF_STATE_WORDS, entries, CINDROLF_ENTRY_WORDS, 2);
+    for (size_t i = 0; i < sizeof history / sizeof history[0]; i++) {
+        lend_without(0);
+        static uint64_t now[CINDROLF_STATE_WORDS];
+        memcpy(now, state, sizeof state);
+        for (size_t step = 0; step < sizeof steps / sizeof steps[0]; step++) {
+            check_one_right(steps[step].call, steps[step].with, steps[step].right, 0);
+            memcpy(state, now, sizeof state);
+        }
+        size_t step = history[i].step;
+        check_one_right(steps[step].call, steps[step].with, steps[step].right, history[i].client);
+        expect(steps[step].name, (uint64_t)(memcmp(now, state, sizeof state) != 0), 1);
+    }
+}
+
+/* The lengths of all three, the words of all three, the client, the scores, the right, and then the step's own checks. */
+static void check_order_of_rights(void) {
+    const uint64_t not_well_formed = CINDROLF_REFUSED + CINDROLF_REFUSAL_NOT_WELL_FORMED;
+    const uint64_t unknown = CINDROLF_REFUSED + CINDROLF_REFUSAL_UNKNOWN_CLIENT;
+    cindrolf_fresh(state, CINDROLF_STATE_WORDS, entries, CINDROLF_ENTRY_WORDS, 2);
+    memset(rights, 0, CINDROLF_RIGHTS_WORDS * sizeof rights[0]);
+    rights[1] = UINT64_C(1) << 53;
+    refuse_steps(state, CINDROLF_STATE_WORDS, entries, CINDROLF_ENTRY_WORDS, rights, CINDROLF_RIGHTS_WORDS, not_well_formed);
+    rights[1] = 0;
+    rights[2] = CINDROLF_RIGHT_NAME;
+    refuse_steps(state, CINDROLF_STATE_WORDS, entries, CINDROLF_ENTRY_WORDS, rights, CINDROLF_RIGHTS_WORDS, not_well_formed);
+    rights[2] = 0;
+    rights[15] = 1;
+    refuse_steps(state, CINDROLF_STATE_WORDS, entries, CINDROLF_ENTRY_WORDS, rights, CINDROLF_RIGHTS_WORDS, not_well_formed);
+    rights[15] = 0;
+    refuse_steps(state, CINDROLF_STATE_WORDS, entries, CINDROLF_ENTRY_WORDS, rights, CINDROLF_RIGHTS_WORDS, unknown);
+    scores[0] = 0;
+    expect("no rights", take_with(cindrolf_name_with, 0), MISSING_RIGHT);
+    expect("no rights, a wide value", write_with(0, UINT64_MAX), MISSING_RIGHT);
+    expect("no rights, no scores", write_scores_with(0, NULL, 0), CINDROLF_REFUSED + CINDROLF_REFUSAL_SCORE_COUNT);
+    expect("no rights, a score", write_scores_with(0, scores, 1), MISSING_RIGHT);
+    scores[0] = CINDROLF_HIGHEST_SCORE + 1;
+    expect("no rights, a high score", write_scores_with(0, scores, 1), CINDROLF_REFUSED + CINDROLF_REFUSAL_SCORE_TOO_HIGH);
+    scores[0] = 0;
+    rights[0] = CINDROLF_ALL_RIGHTS & ~CINDROLF_RIGHT_WRITE;
+    expect("no right to write a score", write_scores_with(0, scores, 1), MISSING_RIGHT);
+    rights[0] = CINDROLF_RIGHT_WRITE;
+    expect("the right to write", write_with(0, UINT64_MAX), CINDROLF_REFUSED + CINDROLF_REFUSAL_DOES_NOT_LEAD);
+    expect("the right to write a score", write_scores_with(0, scores, 1), CINDROLF_REFUSED + CINDROLF_REFUSAL_DOES_NOT_LEAD);
+    /* Rights and a log that are both damaged, and a length that is wrong. */
+    rights[0] = 1;
+    state[526] = 1;
+    refuse_steps(state, CINDROLF_STATE_WORDS, entries, CINDROLF_ENTRY_WORDS, rights, CINDROLF_RIGHTS_WORDS, not_well_formed);
+    refuse_steps(state, CINDROLF_STATE_WORDS, entries, CINDROLF_ENTRY_WORDS, rights, CINDROLF_RIGHTS_WORDS - 1, WRONG_LENGTH);
+    refuse_steps(state, CINDROLF_STATE_WORDS, entries, CINDROLF_ENTRY_WORDS, rights, CINDROLF_RIGHTS_WORDS + 1, WRONG_LENGTH);
+    refuse_steps(state, CINDROLF_STATE_WORDS, entries, CINDROLF_ENTRY_WORDS, NULL, 0, WRONG_LENGTH);
+    refuse_steps(state, CINDROLF_STATE_WORDS - 1, entries, CINDROLF_ENTRY_WORDS, rights, CINDROLF_RIGHTS_WORDS, WRONG_LENGTH);
+    refuse_steps(state, CINDROLF_STATE_WORDS, entries, CINDROLF_ENTRY_WORDS - 1, rights, CINDROLF_RIGHTS_WORDS, WRONG_LENGTH);
+}
+
+static void check_rights(void) {
+    rights[CINDROLF_RIGHTS_WORDS] = 9;
+    check_right_bits();
+    check_guest();
+    check_each_right();
+    check_order_of_rights();
+    expect("the word behind the rights", rights[CINDROLF_RIGHTS_WORDS], 9);
+}
+
 int main(void) {
     expect("version", cindrolf_version(), CINDROLF_VERSION);
 
@@ -418,5 +593,6 @@ int main(void) {
     check_advice();
     check_recovery();
     check_marks();
+    check_rights();
     return wrong;
 }

@@ -94,9 +94,12 @@ fn read<'a, T>(
 }
 
 fn writes(log: &Buffers) -> Vec<Candidate<'_>> {
-    assert!(calls::write(&mut log.state.clone(), &mut log.entries.clone(), 0, 7).is_ok());
+    let (state, entries) = (&log.state, &log.entries);
+    assert!(calls::write(&mut state.clone(), &mut entries.clone(), 0, 7).is_ok());
+    assert!(calls::write_with(&mut state.clone(), &mut entries.clone(), &log.rights, 0, 7).is_ok());
     vec![
         write("library", log, |state, entries| calls::write(state, entries, 0, 7)),
+        write("under rights", log, |state, entries| calls::write_with(state, entries, black_box(&log.rights), 0, 7)),
         check("its check alone", log, calls::well_formed),
         write("model", log, |state, entries| words::step(state, entries, 0, Step::Write(7))),
         write("idiomatic check", log, |state, entries| {

@@ -11,6 +11,22 @@
 //! # Ok::<(), Error>(())
 //! ```
 //!
+//! A step whose name ends in `_with` takes the rights of the clients too, words of any length and content, and is
+//! refused where its client lacks the right to it. The other steps ask for none.
+//!
+//! ```
+//! use cindrolf::{Error, Refusal, Right, Rights, calls};
+//!
+//! let (mut state, mut entries) = (vec![0; 527], vec![0; 4096]);
+//! calls::fresh(&mut state, &mut entries, 2)?;
+//! let mut rights = Rights::all(2)?;
+//! rights.revoke(1, Right::Name);
+//! let words = rights.words();
+//! assert_eq!(calls::name_with(&mut state, &mut entries, words, 1), Err(Error::Refused(Refusal::MissingRight)));
+//! assert_eq!(calls::name_with(&mut state, &mut entries, &words[1..], 1), Err(Error::Refused(Refusal::WrongLength)));
+//! # Ok::<(), Error>(())
+//! ```
+//!
 //! The unsafe blocks below are sound for one reason. The library reads and writes only the words and scores that it is
 //! lent by pointer and length, keeps no pointer, and answers every content. The slices give it pointers that are aligned, not
 //! null and valid for their lengths. A `&mut` slice is lent to nobody else meanwhile, so what the library changes
@@ -18,9 +34,21 @@
 
 use crate::{Advice, CloseLast, Error, Finish, LedgerNumber, MarkName, Position, Progress, ReadingPlace, answer, raw};
 
-// An operation that changes both buffers, by the numbers that it takes and the answers that it can give.
-macro_rules! operation {
-    ($(#[$doc:meta])* $name:ident($($number:ident),*), $raw:ident, $answer:path => $given:ty) => {
+/// Makes the buffers an empty log for 1 to 16 clients, of which client 0 is the named leader.
+pub fn fresh(state: &mut [u64], entries: &mut [u64], client_count: u64) -> Result<(), Error> {
+    // SAFETY: both slices are exclusive, and the count is any number.
+    let number = unsafe {
+        raw::cindrolf_fresh(state.as_mut_ptr(), state.len(), entries.as_mut_ptr(), entries.len(), client_count)
+    };
+    answer::done(number)
+}
+
+// A step, without rights and with them, by the numbers that it takes and the answers that it can give.
+macro_rules! step {
+    (
+        $(#[$doc:meta])* $name:ident($($number:ident),*), $raw:ident; $with:ident, $raw_with:ident;
+        $answer:path => $given:ty
+    ) => {
         $(#[$doc])*
         pub fn $name(state: &mut [u64], entries: &mut [u64], $($number: u64),*) -> Result<$given, Error> {
             // SAFETY: both slices are exclusive, and each number is any number.
@@ -29,62 +57,79 @@ macro_rules! operation {
             };
             $answer(number)
         }
+
+        #[doc = concat!("As [`", stringify!($name), "`](", stringify!($name), "()), under these rights.")]
+        pub fn $with(
+            state: &mut [u64],
+            entries: &mut [u64],
+            rights: &[u64],
+            $($number: u64),*
+        ) -> Result<$given, Error> {
+            // SAFETY: the state and the entries are exclusive, the rights are only read, and each number is any number.
+            let number = unsafe {
+                raw::$raw_with(
+                    state.as_mut_ptr(),
+                    state.len(),
+                    entries.as_mut_ptr(),
+                    entries.len(),
+                    rights.as_ptr(),
+                    rights.len(),
+                    $($number),*
+                )
+            };
+            $answer(number)
+        }
     };
 }
 
-operation! {
-    /// Makes the buffers an empty log for 1 to 16 clients, of which client 0 is the named leader.
-    fresh(client_count), cindrolf_fresh, answer::done => ()
-}
-
-operation! {
+step! {
     /// The client becomes the named leader.
-    name(client), cindrolf_name, answer::done => ()
+    name(client), cindrolf_name; name_with, cindrolf_name_with; answer::done => ()
 }
 
-operation! {
+step! {
     /// The client, which is named, starts to lead.
-    become_leader(client), cindrolf_become, answer::done => ()
+    become_leader(client), cindrolf_become; become_leader_with, cindrolf_become_with; answer::done => ()
 }
 
-operation! {
+step! {
     /// The client, which is no longer named, stops leading.
-    abdicate(client), cindrolf_abdicate, answer::done => ()
+    abdicate(client), cindrolf_abdicate; abdicate_with, cindrolf_abdicate_with; answer::done => ()
 }
 
-operation! {
+step! {
     /// The client remembers the list's length and its last ledger.
-    fetch(client), cindrolf_fetch, answer::done => ()
+    fetch(client), cindrolf_fetch; fetch_with, cindrolf_fetch_with; answer::done => ()
 }
 
-operation! {
+step! {
     /// The client fences the ledger that it fetched.
-    close_last(client), cindrolf_close_last, answer::close_last => CloseLast
+    close_last(client), cindrolf_close_last; close_last_with, cindrolf_close_last_with; answer::close_last => CloseLast
 }
 
-operation! {
+step! {
     /// The client closes the ledger that is fenced.
-    finish(client), cindrolf_finish, answer::finish => Finish
+    finish(client), cindrolf_finish; finish_with, cindrolf_finish_with; answer::finish => Finish
 }
 
-operation! {
+step! {
     /// The client creates a ledger.
-    create(client), cindrolf_create, answer::done => ()
+    create(client), cindrolf_create; create_with, cindrolf_create_with; answer::done => ()
 }
 
-operation! {
+step! {
     /// The client appends its new ledger to the list.
-    append(client), cindrolf_append, answer::progress => Progress
+    append(client), cindrolf_append; append_with, cindrolf_append_with; answer::progress => Progress
 }
 
-operation! {
+step! {
     /// The client adds an entry to its ledger, and is answered the entry's number and its place in that ledger.
-    write(client, value), cindrolf_write, answer::entry => Position
+    write(client, value), cindrolf_write; write_with, cindrolf_write_with; answer::entry => Position
 }
 
-operation! {
+step! {
     /// The client closes its own ledger, which may be empty.
-    close_own(client), cindrolf_close_own, answer::progress => Progress
+    close_own(client), cindrolf_close_own; close_own_with, cindrolf_close_own_with; answer::progress => Progress
 }
 
 /// The client adds an entry to its ledger whose value is the sum of the parts of these scores, and is answered as by
@@ -97,6 +142,32 @@ pub fn write_scores(state: &mut [u64], entries: &mut [u64], client: u64, scores:
             state.len(),
             entries.as_mut_ptr(),
             entries.len(),
+            client,
+            scores.as_ptr(),
+            scores.len(),
+        )
+    };
+    answer::entry(number)
+}
+
+/// As [`write_scores`], under these rights.
+pub fn write_scores_with(
+    state: &mut [u64],
+    entries: &mut [u64],
+    rights: &[u64],
+    client: u64,
+    scores: &[u16],
+) -> Result<Position, Error> {
+    // SAFETY: the state and the entries are exclusive, the rights and the scores are only read, and the client is any
+    // number.
+    let number = unsafe {
+        raw::cindrolf_write_scores_with(
+            state.as_mut_ptr(),
+            state.len(),
+            entries.as_mut_ptr(),
+            entries.len(),
+            rights.as_ptr(),
+            rights.len(),
             client,
             scores.as_ptr(),
             scores.len(),

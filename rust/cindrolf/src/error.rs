@@ -103,10 +103,11 @@ macro_rules! refusals {
 }
 
 refusals! {
-    /// The state buffer hasn't 527 words, the entry buffer hasn't 4,096, or the marks buffer hasn't 64.
+    /// The state buffer hasn't 527 words, the entry buffer hasn't 4,096, the marks buffer hasn't 64, or the rights buffer
+    /// hasn't 16.
     WrongLength = 1, "a buffer has the wrong length";
-    /// The buffers hold no log, or the marks are none of this log.
-    NotWellFormed = 2, "the buffers hold no well-formed log, or no marks of it";
+    /// The buffers hold no log, or the marks or the rights are none of this log.
+    NotWellFormed = 2, "the buffers hold no well-formed log, or no marks or rights of it";
     /// The client number isn't below the client count.
     UnknownClient = 3, "the client number is not below the client count";
     /// The client is the named leader: it can't be named again, and it can't abdicate.
@@ -149,10 +150,12 @@ refusals! {
     MarksFull = 22, "32 marks are kept";
     /// No mark of this name is kept.
     MarkNotKept = 23, "no mark of this name is kept";
+    /// The client lacks the right to this step.
+    MissingRight = 24, "the client lacks the right to this step";
 }
 
 impl Refusal {
-    /// The refusal's number, 1 to 23.
+    /// The refusal's number, 1 to 24.
     pub const fn number(self) -> u64 {
         self as u64
     }
@@ -172,7 +175,7 @@ mod tests {
 
     #[test]
     fn numbers() {
-        assert_eq!(Refusal::ALL.len(), 23);
+        assert_eq!(Refusal::ALL.len(), 24);
         for (number, &refusal) in (1..).zip(Refusal::ALL) {
             assert_eq!(refusal.number(), number);
             assert_eq!(Refusal::from_number(number), Some(refusal));
@@ -184,6 +187,8 @@ mod tests {
     fn texts() {
         assert_eq!(Refusal::LogFull.to_string(), "the log is full");
         assert_eq!(Error::from(Refusal::LogFull).to_string(), "the log is full (refusal 13)");
+        let missing = Error::from(Refusal::MissingRight).to_string();
+        assert_eq!(missing, "the client lacks the right to this step (refusal 24)");
         let other = Error::OtherVersion(1).to_string();
         assert_eq!(other, "the library has version 1, and the crate is written for version 3");
         assert!(Error::UnknownAnswer(300).to_string().starts_with("the library answered 300, "));

@@ -125,6 +125,20 @@
 //! log.set_mark(&mut marks, before_the_wash)?;
 //! # Ok::<(), Error>(())
 //! ```
+//!
+//! Steps may be taken under [`Rights`], which say for each client which steps it may take. They are lent with each step
+//! and kept by the caller; without any, each client may take every step.
+//!
+//! ```
+//! use cindrolf::{Error, Log, Refusal, Right, Rights};
+//!
+//! let mut log = Log::fresh(2)?;
+//! let mut rights = Rights::all(2)?;
+//! rights.revoke(1, Right::Name);
+//! assert_eq!(log.under(&rights).name(1), Err(Error::Refused(Refusal::MissingRight)));
+//! assert_eq!(log.under(&rights).become_leader(0), Ok(()));
+//! # Ok::<(), Error>(())
+//! ```
 
 mod answer;
 pub mod calls;
@@ -133,13 +147,15 @@ mod log;
 mod mark;
 #[doc(hidden)]
 pub mod raw;
+mod rights;
 mod version;
 mod view;
 
 pub use answer::{Advice, CloseLast, EntryNumber, Finish, LedgerNumber, LedgerPlace, Position, Progress, ReadingPlace};
 pub use error::{Error, Refusal};
-pub use log::{Log, LogMut, LogRef};
+pub use log::{Log, LogMut, LogRef, PermittedLog};
 pub use mark::MarkName;
+pub use rights::{Right, Rights};
 pub use version::{VERSION, check_version};
 pub use view::{Client, Entry, Ledger, ListPlace, Remembered, Stage, View};
 
@@ -159,6 +175,8 @@ pub const HIGHEST_SCORE: u16 = 372;
 pub const MARK_WORDS: usize = 64;
 /// The most marks that a marks buffer keeps.
 pub const MARKS_LIMIT: usize = 32;
+/// Words in a rights buffer, one for each client that a log can have.
+pub const RIGHTS_WORDS: usize = 16;
 /// The most words of a window.
 pub const LONGEST_WINDOW: u64 = 256;
 

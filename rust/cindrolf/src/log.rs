@@ -2,7 +2,7 @@
 
 use crate::{
     Advice, CloseLast, ENTRY_WORDS, Error, Finish, LedgerNumber, MarkName, Position, Progress, ReadingPlace, Refusal,
-    STATE_WORDS, View, calls, check_version,
+    Rights, STATE_WORDS, View, calls, check_version,
 };
 
 /// A log that owns its two buffers.
@@ -81,6 +81,28 @@ pub struct LogMut<'a> {
 pub struct LogRef<'a> {
     state: &'a [u64],
     entries: &'a [u64],
+}
+
+/// A log whose steps are taken under rights: each is refused where its client lacks the right to it.
+///
+/// [`Log::under`] and [`LogMut::under`] give one, for as long as the rights stay as they are.
+///
+/// ```
+/// use cindrolf::{Error, Log, Refusal, Right, Rights};
+///
+/// let mut log = Log::fresh(2)?;
+/// let mut rights = Rights::none();
+/// rights.grant(1, Right::Name)?;
+/// let mut permitted = log.under(&rights);
+/// assert_eq!(permitted.name(1), Ok(()));
+/// assert_eq!(permitted.become_leader(1), Err(Error::Refused(Refusal::MissingRight)));
+/// # Ok::<(), Error>(())
+/// ```
+#[derive(Debug)]
+pub struct PermittedLog<'a> {
+    state: &'a mut [u64],
+    entries: &'a mut [u64],
+    rights: &'a Rights,
 }
 
 impl Log {
@@ -226,9 +248,42 @@ impl<'a> LogRef<'a> {
     }
 }
 
+// The steps under rights, each by its function in `calls` and what it takes beside its client.
+macro_rules! permitted_steps {
+    ($($name:ident, $call:ident($($input:ident: $kind:ty)?) => $given:ty;)*) => {
+        impl PermittedLog<'_> {
+            $(
+                #[doc = concat!("As [`Log::", stringify!($name), "`], where the client has the right to it.")]
+                pub fn $name(&mut self, client: u64 $(, $input: $kind)?) -> Result<$given, Error> {
+                    calls::$call(self.state, self.entries, self.rights.words(), client $(, $input)?)
+                }
+            )*
+        }
+    };
+}
+
+permitted_steps! {
+    name, name_with() => ();
+    become_leader, become_leader_with() => ();
+    abdicate, abdicate_with() => ();
+    fetch, fetch_with() => ();
+    close_last, close_last_with() => CloseLast;
+    finish, finish_with() => Finish;
+    create, create_with() => ();
+    append, append_with() => Progress;
+    write, write_with(value: u64) => Position;
+    write_scores, write_scores_with(scores: &[u16]) => Position;
+    close_own, close_own_with() => Progress;
+}
+
 macro_rules! operations {
     ($($log:ty),*) => {$(
         impl $log {
+            /// The log with these rights, under which its steps are then taken. A step of the log itself asks for none.
+            pub fn under<'a>(&'a mut self, rights: &'a Rights) -> PermittedLog<'a> {
+                PermittedLog { state: &mut self.state, entries: &mut self.entries, rights }
+            }
+
             /// The client becomes the named leader.
             pub fn name(&mut self, client: u64) -> Result<(), Error> {
                 calls::name(&mut self.state, &mut self.entries, client)
@@ -306,8 +361,8 @@ macro_rules! operations {
                 self.as_ref().well_formed()
             }
 
-            /// The step that a client should take next, if there is one. A named leader that takes these steps, while no
-            /// other client does anything, has a write accepted at the tenth or earlier.
+            /// The step that a client should take next, if there is one. A named leader that takes these steps and lacks
+            /// no right, while no other client does anything, has a write accepted at the tenth or earlier.
             pub fn advise(&self, client: u64) -> Result<Option<Advice>, Error> {
                 self.as_ref().advise(client)
             }

@@ -50,6 +50,36 @@ operations! {
     cindrolf_close_own(client);
 }
 
+// The steps under rights, which are lent to be read.
+macro_rules! steps_with {
+    ($($name:ident($($number:ident),*);)*) => {
+        unsafe extern "C" {
+            $(pub fn $name(
+                state: *mut u64,
+                state_len: usize,
+                entries: *mut u64,
+                entries_len: usize,
+                rights: *const u64,
+                rights_len: usize,
+                $($number: u64,)*
+            ) -> u64;)*
+        }
+    };
+}
+
+steps_with! {
+    cindrolf_name_with(client);
+    cindrolf_become_with(client);
+    cindrolf_abdicate_with(client);
+    cindrolf_fetch_with(client);
+    cindrolf_close_last_with(client);
+    cindrolf_finish_with(client);
+    cindrolf_create_with(client);
+    cindrolf_append_with(client);
+    cindrolf_write_with(client, value);
+    cindrolf_close_own_with(client);
+}
+
 unsafe extern "C" {
     pub fn cindrolf_version() -> u64;
     pub fn cindrolf_write_scores(
@@ -57,6 +87,17 @@ unsafe extern "C" {
         state_len: usize,
         entries: *mut u64,
         entries_len: usize,
+        client: u64,
+        scores: *const u16,
+        scores_len: usize,
+    ) -> u64;
+    pub fn cindrolf_write_scores_with(
+        state: *mut u64,
+        state_len: usize,
+        entries: *mut u64,
+        entries_len: usize,
+        rights: *const u64,
+        rights_len: usize,
         client: u64,
         scores: *const u16,
         scores_len: usize,

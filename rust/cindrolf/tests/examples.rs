@@ -5,7 +5,8 @@ use cindrolf::{
     Position, Progress,
 };
 use cindrolf::{
-    HIGHEST_SCORE, MARK_WORDS, MARKS_LIMIT, Refusal, SCORES_LIMIT, STATE_WORDS, Stage, calls, ledger_of, value_of,
+    HIGHEST_SCORE, MARK_WORDS, MARKS_LIMIT, RIGHTS_WORDS, Refusal, Right, Rights, SCORES_LIMIT, STATE_WORDS, Stage,
+    calls, ledger_of, value_of,
 };
 
 fn refused<T>(refusal: Refusal) -> Result<T, Error> {
@@ -302,4 +303,89 @@ fn recovering() {
     assert!(log.view().client(2).unwrap().ledger.unwrap().recovering);
     log.create(2).unwrap();
     assert!(!log.view().client(2).unwrap().ledger.unwrap().recovering);
+}
+
+// A guest that leads: it goes on writing, to its next ledger too, and is not named again once another is.
+#[test]
+fn guest() {
+    let (host, guest) = (0, 1);
+    let mut log = Log::fresh(2).unwrap();
+    let mut rights = Rights::all(2).unwrap();
+    let mut permitted = log.under(&rights);
+    assert_eq!(permitted.name(guest), Ok(()));
+    assert_eq!(permitted.become_leader(guest), Ok(()));
+    assert_eq!(permitted.fetch(guest), Ok(()));
+    assert_eq!(permitted.create(guest), Ok(()));
+    assert_eq!(permitted.append(guest), Ok(Progress::Done));
+    rights.revoke(guest, Right::Name);
+    rights.revoke(guest, Right::Become);
+    let mut permitted = log.under(&rights);
+    assert_eq!(permitted.write(guest, 7), at(0, 0));
+    assert_eq!(permitted.name(host), Ok(()));
+    assert_eq!(permitted.name(guest), refused(Refusal::MissingRight));
+    assert_eq!(permitted.write_scores(guest, &[40]), at(1, 1));
+    assert_eq!(permitted.close_own(guest), Ok(Progress::Done));
+    assert_eq!(permitted.create(guest), Ok(()));
+    assert_eq!(permitted.append(guest), Ok(Progress::Done));
+    assert_eq!(permitted.write(guest, 8), at(2, 0));
+    // The host takes over, and fences it.
+    assert_eq!(permitted.become_leader(host), Ok(()));
+    assert_eq!(permitted.fetch(host), Ok(()));
+    assert_eq!(permitted.close_last(host), Ok(CloseLast::Done));
+    assert_eq!(permitted.write(guest, 9), refused(Refusal::LedgerFenced));
+    assert_eq!(permitted.finish(host), Ok(Finish::Done));
+    assert_eq!(permitted.abdicate(guest), Ok(()));
+    assert_eq!(permitted.become_leader(guest), refused(Refusal::MissingRight));
+    // Without rights nothing is asked of them.
+    assert_eq!(log.name(guest), Ok(()));
+}
+
+// A guest that is behind stops leading, and is still named: without the right to be named it leads again, without that to become not.
+#[test]
+fn guest_after_a_behind() {
+    let (host, guest) = (0, 1);
+    let mut log = Log::fresh(2).unwrap();
+    for client in [host, guest] {
+        let _ = log.name(client);
+        for step in [Log::become_leader, Log::fetch, Log::create] {
+            assert_eq!(step(&mut log, client), Ok(()));
+        }
+    }
+    assert_eq!(log.append(host), Ok(Progress::Done));
+    let mut rights = Rights::all(2).unwrap();
+    rights.revoke(guest, Right::Name);
+    assert_eq!(log.under(&rights).append(guest), Ok(Progress::Behind));
+    assert_eq!(log.view().named_leader(), guest);
+    assert_eq!(log.clone().under(&rights).become_leader(guest), Ok(()));
+    rights.revoke(guest, Right::Become);
+    assert_eq!(log.under(&rights).become_leader(guest), refused(Refusal::MissingRight));
+}
+
+// Lengths, words, the client, the scores, the right, and then the step's own.
+#[test]
+fn refused_rights() {
+    let mut log = writing(2);
+    let before = log.clone();
+    let mut rights = Rights::all(2).unwrap();
+    rights.revoke(0, Right::Write);
+    let mut permitted = log.under(&rights);
+    assert_eq!(permitted.write(2, 7), refused(Refusal::UnknownClient));
+    assert_eq!(permitted.write(0, 1 << 52), refused(Refusal::MissingRight));
+    assert_eq!(permitted.write_scores(0, &[]), refused(Refusal::ScoreCount));
+    assert_eq!(permitted.write_scores(0, &[373]), refused(Refusal::ScoreTooHigh));
+    assert_eq!(permitted.write_scores(0, &[40]), refused(Refusal::MissingRight));
+    assert_eq!(permitted.write(1, 1 << 52), refused(Refusal::DoesNotLead));
+    for (client, bit) in [(0, 53), (1, 0), (2, 63), (15, 54)] {
+        let mut words = *Rights::all(2).unwrap().words();
+        words[client] |= 1 << bit;
+        assert_eq!(log.as_mut().under(&Rights::from_words(words)).write(2, 7), refused(Refusal::NotWellFormed));
+    }
+    let (mut state, mut entries) = (log.state().to_vec(), log.entries().to_vec());
+    for length in [0, RIGHTS_WORDS - 1, RIGHTS_WORDS + 1] {
+        let lent = vec![1; length];
+        assert_eq!(calls::write_with(&mut state, &mut entries, &lent, 2, 7), refused(Refusal::WrongLength));
+        assert_eq!(calls::name_with(&mut [1; STATE_WORDS], &mut entries, &lent, 2), refused(Refusal::WrongLength));
+        assert_eq!(calls::write_scores_with(&mut state, &mut entries, &lent, 2, &[]), refused(Refusal::WrongLength));
+    }
+    assert!(log == before && state == before.state() && entries == before.entries());
 }

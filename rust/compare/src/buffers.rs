@@ -2,6 +2,7 @@
 
 use crate::call::{Buffers, Call, Subject};
 use crate::marks::{self, any_marks};
+use crate::rights::any_rights;
 use crate::shrink;
 use crate::sides::Sides;
 use model::histories::{any_client, with_any_input};
@@ -24,6 +25,10 @@ pub fn compare(subject: Subject, sides: &mut Sides, random: &mut Random) -> Resu
             buffers.output = any_output(random, length);
             sides.set(&buffers);
         }
+        if let Call::StepWith(client, step) = call {
+            buffers.rights = any_rights(random, head(&buffers).client_count, client, step);
+            sides.set_rights(&buffers.rights);
+        }
         match sides.call(call) {
             Ok(outcome) if outcome.changes() => sides.set(&buffers),
             Ok(_) => {}
@@ -33,20 +38,20 @@ pub fn compare(subject: Subject, sides: &mut Sides, random: &mut Random) -> Resu
     Ok(())
 }
 
-/// The calls to try: each step by a client at any stage and by one at the step's own stage, then the others.
+/// The calls to try: each step by a client at any stage and by one at the step's own stage, under rights or without, then the others.
 fn calls(random: &mut Random, buffers: &Buffers) -> Vec<Call> {
     let head = head(buffers);
     let mut calls = vec![Call::WellFormed, Call::ReadChain, Call::ReadChain];
     for kind in Step::ALL {
         let step = with_any_input(random, kind);
-        calls.push(Call::Step(any_client(random, head.client_count), step));
+        calls.push(any_call(random)(any_client(random, head.client_count), step));
         let fits = |client: &u64| {
             let word = buffers.state.get(client_index(*client)).copied().unwrap_or(0);
             Client::load(word).0.stage == stage(kind)
         };
         let ready: Vec<u64> = (0..head.client_count.min(16)).filter(fits).collect();
         if !ready.is_empty() {
-            calls.push(Call::Step(random.pick(&ready), step));
+            calls.push(any_call(random)(random.pick(&ready), step));
         }
     }
     let reading = reading(buffers);
@@ -59,6 +64,11 @@ fn calls(random: &mut Random, buffers: &Buffers) -> Vec<Call> {
     }
     calls.extend(marks::calls(random, &buffers.marks));
     calls
+}
+
+/// A step without rights, or one under rights.
+pub fn any_call(random: &mut Random) -> fn(u64, Step) -> Call {
+    random.pick(&[Call::Step, Call::StepWith])
 }
 
 fn head(buffers: &Buffers) -> Head {

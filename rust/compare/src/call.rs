@@ -14,6 +14,8 @@ pub struct Buffers {
     pub entries: Vec<u64>,
     /// The marks buffer.
     pub marks: Vec<u64>,
+    /// The rights of a step under rights.
+    pub rights: Vec<u64>,
     /// The output buffer of read chain and of reading at a mark.
     pub output: Vec<u64>,
 }
@@ -21,7 +23,8 @@ pub struct Buffers {
 impl Buffers {
     /// The buffers as a call is lent them.
     pub fn lend(&mut self) -> Lent<'_> {
-        Lent { state: &mut self.state, entries: &mut self.entries, marks: &mut self.marks, output: &mut self.output }
+        let Buffers { state, entries, marks, rights, output } = self;
+        Lent { state, entries, marks, rights, output }
     }
 }
 
@@ -34,6 +37,8 @@ pub struct Lent<'a> {
     pub entries: &'a mut [u64],
     /// The marks buffer.
     pub marks: &'a mut [u64],
+    /// The rights of a step under rights.
+    pub rights: &'a mut [u64],
     /// The output buffer of read chain and of reading at a mark.
     pub output: &'a mut [u64],
 }
@@ -43,8 +48,10 @@ pub struct Lent<'a> {
 pub enum Call {
     /// Fresh, with a client count.
     Fresh(u64),
-    /// A step by a client.
+    /// A step by a client, without rights.
     Step(u64, Step),
+    /// A step by a client, under the rights that are lent.
+    StepWith(u64, Step),
     /// The check of both buffers.
     WellFormed,
     /// The adviser, with a client.
@@ -67,8 +74,12 @@ pub enum Call {
 impl fmt::Display for Call {
     fn fmt(&self, f: &mut fmt::Formatter<'_>) -> fmt::Result {
         match self {
-            Call::Step(client, Step::WriteScores(scores @ [a, b, .., y, z])) if scores.len() > 8 => {
-                write!(f, "Step({client}, WriteScores([{a}, {b}, .. {y}, {z}]), {} scores)", scores.len())
+            Call::Step(client, Step::WriteScores(scores @ [a, b, .., y, z]))
+            | Call::StepWith(client, Step::WriteScores(scores @ [a, b, .., y, z]))
+                if scores.len() > 8 =>
+            {
+                let name = if matches!(self, Call::Step(..)) { "Step" } else { "StepWith" };
+                write!(f, "{name}({client}, WriteScores([{a}, {b}, .. {y}, {z}]), {} scores)", scores.len())
             }
             call => write!(f, "{call:?}"),
         }
@@ -138,10 +149,11 @@ pub type Subject = fn(Call, &mut Lent) -> Outcome;
 
 /// The model's side.
 pub fn model(call: Call, lent: &mut Lent) -> Outcome {
-    let Lent { state, entries, marks, output } = lent;
+    let Lent { state, entries, marks, rights, output } = lent;
     match call {
         Call::Fresh(count) => Outcome::Answer(words::fresh(state, entries, count)),
         Call::Step(client, step) => Outcome::Answer(words::step(state, entries, client, step)),
+        Call::StepWith(client, step) => Outcome::Answer(words::step_with(state, entries, rights, client, step)),
         Call::WellFormed => Outcome::WellFormed(words::well_formed(state, entries)),
         Call::Advise(client) => words::advise(state, entries, client)
             .map_or_else(|number| Outcome::Answer(Answer::Refused(number)), Outcome::Advice),
@@ -181,10 +193,11 @@ fn model_part(part: Range<usize>) -> Outcome {
 /// The library's side, through the crate for controllers.
 pub fn library(call: Call, lent: &mut Lent) -> Outcome {
     use cindrolf::{MarkName, calls};
-    let Lent { state, entries, marks, .. } = lent;
+    let Lent { state, entries, marks, rights, .. } = lent;
     match call {
         Call::Fresh(count) => accepted(calls::fresh(state, entries, count)),
         Call::Step(client, step) => Outcome::Answer(library_step(state, entries, client, step)),
+        Call::StepWith(client, step) => Outcome::Answer(library_step_with(state, entries, rights, client, step)),
         Call::WellFormed => Outcome::WellFormed(calls::well_formed(state, entries)),
         Call::Advise(client) => library_advice(state, entries, client),
         Call::ReadLedger(ledger) => library_ledger(lent, ledger),
@@ -258,7 +271,7 @@ fn library_chain(lent: &mut Lent) -> Outcome {
 // As for read chain.
 fn library_mark(lent: &mut Lent, name: u64) -> Outcome {
     use cindrolf::{MarkName, calls, raw};
-    let Lent { state, entries, marks, output } = lent;
+    let Lent { state, entries, marks, output, .. } = lent;
     // SAFETY: the slices are valid for their lengths, and the output, which alone is changed, is exclusive.
     let given = unsafe {
         raw::cindrolf_mark_read(
@@ -301,27 +314,14 @@ fn library_window(lent: &Lent, length: u64, limit: u64) -> Outcome {
 fn numbered(number: u64) -> Answer {
     match number {
         0 => Answer::Done,
-        257..=279 => Answer::Refused(number - 256),
+        257..=280 => Answer::Refused(number - 256),
         _ => Answer::Refused(u64::MAX),
     }
 }
 
-fn library_step(state: &mut [u64], entries: &mut [u64], client: u64, step: Step) -> Answer {
-    use cindrolf::{CloseLast, Finish, Position, Progress, calls};
-    let close_last = |given| match given {
-        CloseLast::Done => Answer::Done,
-        CloseLast::WasClosed => Answer::WasClosed,
-        CloseLast::Behind => Answer::Behind,
-    };
-    let finish = |given| match given {
-        Finish::Done => Answer::Done,
-        Finish::Behind => Answer::Behind,
-    };
-    let entry = |at: Position| Answer::Entry { number: at.number.0, place: at.place.0 };
-    let progress = |given| match given {
-        Progress::Done => Answer::Done,
-        Progress::Behind => Answer::Behind,
-    };
+/// A step of the library, without rights.
+pub fn library_step(state: &mut [u64], entries: &mut [u64], client: u64, step: Step) -> Answer {
+    use cindrolf::calls;
     match step {
         Step::Name => calls::name(state, entries, client).map_or_else(failed, done),
         Step::Become => calls::become_leader(state, entries, client).map_or_else(failed, done),
@@ -337,6 +337,52 @@ fn library_step(state: &mut [u64], entries: &mut [u64], client: u64, step: Step)
         }
         Step::CloseOwn => calls::close_own(state, entries, client).map_or_else(failed, progress),
     }
+}
+
+/// A step of the library under rights.
+pub fn library_step_with(state: &mut [u64], entries: &mut [u64], rights: &[u64], client: u64, step: Step) -> Answer {
+    use cindrolf::calls;
+    match step {
+        Step::Name => calls::name_with(state, entries, rights, client).map_or_else(failed, done),
+        Step::Become => calls::become_leader_with(state, entries, rights, client).map_or_else(failed, done),
+        Step::Abdicate => calls::abdicate_with(state, entries, rights, client).map_or_else(failed, done),
+        Step::Fetch => calls::fetch_with(state, entries, rights, client).map_or_else(failed, done),
+        Step::CloseLast => calls::close_last_with(state, entries, rights, client).map_or_else(failed, close_last),
+        Step::Finish => calls::finish_with(state, entries, rights, client).map_or_else(failed, finish),
+        Step::Create => calls::create_with(state, entries, rights, client).map_or_else(failed, done),
+        Step::Append => calls::append_with(state, entries, rights, client).map_or_else(failed, progress),
+        Step::Write(value) => calls::write_with(state, entries, rights, client, value).map_or_else(failed, entry),
+        Step::WriteScores(scores) => with_scores(scores, |scores| {
+            calls::write_scores_with(state, entries, rights, client, scores).map_or_else(failed, entry)
+        }),
+        Step::CloseOwn => calls::close_own_with(state, entries, rights, client).map_or_else(failed, progress),
+    }
+}
+
+fn close_last(given: cindrolf::CloseLast) -> Answer {
+    match given {
+        cindrolf::CloseLast::Done => Answer::Done,
+        cindrolf::CloseLast::WasClosed => Answer::WasClosed,
+        cindrolf::CloseLast::Behind => Answer::Behind,
+    }
+}
+
+fn finish(given: cindrolf::Finish) -> Answer {
+    match given {
+        cindrolf::Finish::Done => Answer::Done,
+        cindrolf::Finish::Behind => Answer::Behind,
+    }
+}
+
+fn progress(given: cindrolf::Progress) -> Answer {
+    match given {
+        cindrolf::Progress::Done => Answer::Done,
+        cindrolf::Progress::Behind => Answer::Behind,
+    }
+}
+
+fn entry(at: cindrolf::Position) -> Answer {
+    Answer::Entry { number: at.number.0, place: at.place.0 }
 }
 
 /// Lends the scores from memory where those around them are too high, so that one read too many shows. They must stay

@@ -1,13 +1,15 @@
 //! Random histories from fresh logs, on the library, on the model of the words and on LedgerChaining's terms.
 
-use crate::buffers::any_window;
+use crate::buffers::{any_call, any_window};
 use crate::call::{Buffers, Call, Outcome, Subject};
+use crate::rights::any_rights;
 use crate::shrink::{shorten, with_fewer_scores};
 use crate::sides::Sides;
 use model::histories::{Profile, any_client};
 use model::layout::{ENTRY_WORDS, STATE_WORDS};
 use model::marks::{LIMIT, MARK_WORDS};
 use model::random::Random;
+use model::rights::{self, RIGHTS_WORDS};
 use model::source::{Source, Taken};
 use model::{Answer, Step};
 use std::fmt::Write;
@@ -18,10 +20,17 @@ const LONGEST: u64 = 6_000;
 /// A history ends after so many steps for which the log had no ledger number or no room left.
 const MOST_AT_LIMIT: u64 = 100;
 
+/// A call, and the rights that are lent with it, where it is a step under rights.
+#[derive(Clone)]
+struct Turn {
+    call: Call,
+    rights: Vec<u64>,
+}
+
 /// A fresh log and what comes after it.
 struct History {
     client_count: u64,
-    calls: Vec<Call>,
+    turns: Vec<Turn>,
 }
 
 /// One history as it runs.
@@ -36,7 +45,7 @@ struct Run<'a> {
 /// Compares one history. The error is a report with the shortest history found.
 pub fn compare(subject: Subject, sides: &mut Sides, random: &mut Random) -> Result<(), String> {
     let profile = random.pick(&Profile::ALL);
-    let mut history = History { client_count: random.between(1, 16), calls: vec![] };
+    let mut history = History { client_count: random.between(1, 16), turns: vec![] };
     let length = if random.chance(20) { LONGEST } else { random.between(1, 600) };
     let mut run = Run::start(sides, history.client_count).map_err(|text| report(subject, &history, text))?;
     for _ in 0..length {
@@ -49,11 +58,16 @@ pub fn compare(subject: Subject, sides: &mut Sides, random: &mut Random) -> Resu
             6..=9 => any_mark_call(random),
             _ => {
                 let (client, step) = profile.next(random, &run.source);
-                Call::Step(client, step)
+                any_call(random)(client, step)
             }
         };
-        history.calls.push(call);
-        if let Err(text) = run.take(call) {
+        let rights = match call {
+            Call::StepWith(client, step) => any_rights(random, history.client_count, client, step),
+            _ => vec![],
+        };
+        let turn = Turn { call, rights };
+        history.turns.push(turn.clone());
+        if let Err(text) = run.take(&turn) {
             return Err(report(subject, &history, text));
         }
         if run.at_limit > MOST_AT_LIMIT {
@@ -77,15 +91,20 @@ impl<'a> Run<'a> {
     fn start(sides: &'a mut Sides, client_count: u64) -> Result<Self, String> {
         let output = (0..ENTRY_WORDS as u64).map(|index| !index).collect();
         let (state, entries) = (vec![u64::MAX; STATE_WORDS], vec![5; ENTRY_WORDS]);
-        sides.set(&Buffers { state, entries, marks: vec![0; MARK_WORDS], output });
+        sides.set(&Buffers { state, entries, marks: vec![0; MARK_WORDS], rights: vec![], output });
         sides.call(Call::Fresh(client_count)).map_err(|difference| difference.to_string())?;
         Ok(Run { sides, source: Source::init(client_count), marks: vec![], at_limit: 0 })
     }
 
-    fn take(&mut self, call: Call) -> Result<(), String> {
+    fn take(&mut self, turn: &Turn) -> Result<(), String> {
+        let call = turn.call;
+        self.sides.set_rights(&turn.rights);
         let outcome = self.sides.call(call).map_err(|difference| difference.to_string())?;
         let agrees = match (call, &outcome) {
-            (Call::Step(client, step), Outcome::Answer(answer)) => self.source_agrees(client, step, *answer),
+            (Call::Step(client, step), Outcome::Answer(answer)) => self.source_agrees(true, client, step, *answer),
+            (Call::StepWith(client, step), Outcome::Answer(answer)) => {
+                self.source_agrees_under(&turn.rights, client, step, *answer)
+            }
             (Call::Advise(client), Outcome::Advice(step)) => {
                 client < self.source.c_state.len() as u64 && *step == self.source.advise(client)
             }
@@ -153,15 +172,27 @@ impl<'a> Run<'a> {
         }
     }
 
-    fn source_agrees(&mut self, client: u64, step: Step, answer: Answer) -> bool {
-        let answers = match self.source.step(client, step) {
+    /// LedgerChaining knows of no buffers, so rights that are malformed leave it as it is.
+    fn source_agrees_under(&mut self, lent: &[u64], client: u64, step: Step, answer: Answer) -> bool {
+        let count = self.source.c_state.len() as u64;
+        if lent.len() != RIGHTS_WORDS {
+            return answer == Answer::Refused(1);
+        }
+        if !rights::well_formed(lent, count) {
+            return answer == Answer::Refused(2);
+        }
+        self.source_agrees(client < count && rights::allows(lent, client, step), client, step, answer)
+    }
+
+    fn source_agrees(&mut self, has_right: bool, client: u64, step: Step, answer: Answer) -> bool {
+        let answers = match self.source.step_with(has_right, client, step) {
             Taken::Accepted(expected) => answer == expected,
             Taken::Limit(number) => {
                 self.at_limit += u64::from(matches!(number, 10 | 13));
                 answer == Answer::Refused(number)
             }
             Taken::Forbidden => {
-                return matches!(answer, Answer::Refused(number) if self.source.forbids_by(client, number));
+                return matches!(answer, Answer::Refused(number) if self.source.forbids_with(has_right, client, number));
             }
         };
         let (state, entries) = self.source.buffers();
@@ -177,28 +208,56 @@ fn first_over(reading: &[u64], length: usize, limit: u64) -> Option<usize> {
 }
 
 /// What a history shows, if it fails.
-fn failure(subject: Subject, client_count: u64, calls: &[Call]) -> Option<String> {
+fn failure(subject: Subject, client_count: u64, turns: &[Turn]) -> Option<String> {
     let mut sides = Sides::new(subject);
     let mut run = match Run::start(&mut sides, client_count) {
         Ok(run) => run,
         Err(text) => return Some(text),
     };
-    calls.iter().find_map(|&call| run.take(call).err())
+    turns.iter().find_map(|turn| run.take(turn).err())
+}
+
+/// Rights in a line: how many words, and those that aren't zero.
+fn describe(rights: &[u64]) -> String {
+    let set = rights.iter().enumerate().filter(|(_, word)| **word != 0);
+    let words: Vec<String> = set.map(|(client, word)| format!("{client}: {word:#018x}")).collect();
+    format!("{} words of rights [{}]", rights.len(), words.join(", "))
+}
+
+/// The turn with plainer rights that still fails: with all of them, or else with no more words than it takes.
+fn with_plainer_rights(mut turn: Turn, all: Vec<u64>, fails: impl Fn(Turn) -> bool) -> Turn {
+    let with_all = Turn { rights: all, ..turn };
+    if !turn.rights.is_empty() && fails(with_all.clone()) {
+        return with_all;
+    }
+    for word in 0..turn.rights.len() {
+        let kept = std::mem::take(&mut turn.rights[word]);
+        if !fails(turn.clone()) {
+            turn.rights[word] = kept;
+        }
+    }
+    turn
 }
 
 fn report(subject: Subject, history: &History, text: String) -> String {
-    let fails = |calls: &[Call]| failure(subject, history.client_count, calls).is_some();
-    let mut calls = shorten(&history.calls, fails);
-    for index in 0..calls.len() {
-        let fails_with = |call| fails(&[&calls[..index], &[call], &calls[index + 1..]].concat());
-        calls[index] = with_fewer_scores(calls[index], fails_with);
+    let fails = |turns: &[Turn]| failure(subject, history.client_count, turns).is_some();
+    let mut turns = shorten(&history.turns, fails);
+    for index in 0..turns.len() {
+        let fails_with = |turn: Turn| fails(&[&turns[..index], &[turn], &turns[index + 1..]].concat());
+        let rights = &turns[index].rights;
+        let call = with_fewer_scores(turns[index].call, |call| fails_with(Turn { call, rights: rights.clone() }));
+        let turn = Turn { call, rights: rights.clone() };
+        turns[index] = with_plainer_rights(turn, rights::all(history.client_count), fails_with);
     }
-    let fewest = (1..history.client_count).find(|&count| failure(subject, count, &calls).is_some());
+    let fewest = (1..history.client_count).find(|&count| failure(subject, count, &turns).is_some());
     let client_count = fewest.unwrap_or(history.client_count);
-    let text = failure(subject, client_count, &calls).unwrap_or(text);
+    let text = failure(subject, client_count, &turns).unwrap_or(text);
     let mut report = format!("{text}The shortest history found that shows it:\n  Fresh({client_count})\n");
-    for call in calls {
-        let _ = writeln!(report, "  {call}");
+    for Turn { call, rights } in turns {
+        let _ = match call {
+            Call::StepWith(..) => writeln!(report, "  {call} under {}", describe(&rights)),
+            _ => writeln!(report, "  {call}"),
+        };
     }
     report
 }

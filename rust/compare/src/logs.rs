@@ -3,7 +3,7 @@
 use crate::call::{Buffers, Call};
 use model::layout::{ENTRY_WORDS, Head, STATE_WORDS};
 use model::marks::{self, LIMIT, MARK_WORDS, Mark};
-use model::{Answer, Step, words};
+use model::{Answer, Step, rights, words};
 
 /// A log, and the step that is tried on each change of it.
 pub struct Named {
@@ -18,7 +18,7 @@ pub struct Named {
 fn fresh(client_count: u64) -> Buffers {
     let (mut state, mut entries) = (vec![0; STATE_WORDS], vec![0; ENTRY_WORDS]);
     assert_eq!(words::fresh(&mut state, &mut entries, client_count), Answer::Done);
-    Buffers { state, entries, marks: vec![0; MARK_WORDS], output: vec![] }
+    Buffers { state, entries, marks: vec![0; MARK_WORDS], rights: rights::all(client_count), output: vec![] }
 }
 
 /// The log with so many marks, whose names are 1, 2 and so on, spread over its entries.
@@ -70,7 +70,7 @@ pub fn chain(client_count: u64, ledgers: u64, entries: u64) -> Buffers {
     log
 }
 
-/// Fresh, one ledger, mid-handover and full; with no mark, one, three and as many as there may be.
+/// Fresh, one ledger, mid-handover and full; with no mark, one, three and as many as there may be, and with all rights.
 pub fn all() -> Vec<Named> {
     let full = chain(16, 255, ENTRY_WORDS as u64);
     vec![

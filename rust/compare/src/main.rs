@@ -12,7 +12,7 @@ Compares the proved library with the model: every call on both, then the answers
   --seed N    the seed of the random calls (default 1)
   --calls N   how many random calls, half of them in histories from fresh logs, half on buffers of any kind
               (default 1000000)
-  --no-sweep  without every single-bit change of four logs and of their marks
+  --no-sweep  without every single-bit change of four logs, of their marks and of their rights
   --help      this text
 
 A difference is printed with the smallest case found that shows it, and the exit status is 1.";
@@ -63,6 +63,7 @@ fn run(options: &Options, sides: &mut Sides) -> Result<(), String> {
         sweep::undamaged(call::library, sides, &log)?;
         if options.sweep {
             sweep::mark_changes(call::library, sides, &log)?;
+            sweep::rights_changes(call::library, sides, &log)?;
         }
         let bits = if options.sweep { sweep::bits(&log) } else { 0 };
         for start in (0..bits).step_by(4096) {

@@ -31,17 +31,25 @@ pub fn shorten<T: Clone>(list: &[T], fails: impl Fn(&[T]) -> bool) -> Vec<T> {
 
 /// The call with the shortest part of its scores found that still fails.
 pub fn with_fewer_scores(mut call: Call, fails: impl Fn(Call) -> bool) -> Call {
-    while let Call::Step(client, Step::WriteScores(scores)) = call {
+    while let Call::Step(_, Step::WriteScores(scores)) | Call::StepWith(_, Step::WriteScores(scores)) = call {
         let (first, second) = scores.split_at(scores.len() / 2);
         let ends = [scores.get(1..), scores.get(..scores.len().saturating_sub(1))];
         let parts = [first, second].into_iter().chain(ends.into_iter().flatten());
         let shorter = parts.filter(|part| part.len() < scores.len());
-        match shorter.map(|part| Call::Step(client, Step::WriteScores(part))).find(|&call| fails(call)) {
+        match shorter.map(|part| with_scores(call, part)).find(|&call| fails(call)) {
             Some(shorter) => call = shorter,
             None => break,
         }
     }
     call
+}
+
+fn with_scores(call: Call, scores: &'static [u16]) -> Call {
+    match call {
+        Call::Step(client, _) => Call::Step(client, Step::WriteScores(scores)),
+        Call::StepWith(client, _) => Call::StepWith(client, Step::WriteScores(scores)),
+        call => call,
+    }
 }
 
 /// What a call on these buffers shows, if the two sides part.
@@ -62,6 +70,7 @@ pub fn simplify(subject: Subject, call: Call, buffers: &Buffers) -> Buffers {
         zero_words(&mut best, size, |buffers| &mut buffers.entries, fails);
         zero_words(&mut best, size, |buffers| &mut buffers.state, fails);
         zero_words(&mut best, size, |buffers| &mut buffers.marks, fails);
+        zero_words(&mut best, size, |buffers| &mut buffers.rights, fails);
     }
     best
 }
@@ -79,6 +88,7 @@ fn cuts(buffers: &Buffers) -> Vec<Buffers> {
         cut.state[(272 + head.list_length as usize).min(STATE_WORDS)..].fill(0);
         cut.state[(16 + head.next_ledger as usize).min(272)..272].fill(0);
         cut.state[(1 + head.client_count as usize).min(17)..17].fill(0);
+        cut.rights.iter_mut().skip(head.client_count as usize).for_each(|word| *word = 0);
         cut
     };
     let smaller = |count: u64| [0, count / 2, count.saturating_sub(1)];
@@ -121,7 +131,13 @@ fn zero_words(
 /// The lengths of the buffers and the words that aren't zero.
 pub fn describe(buffers: &Buffers) -> String {
     let mut text = String::new();
-    for (name, words) in [("state", &buffers.state), ("entries", &buffers.entries), ("marks", &buffers.marks)] {
+    let named = [
+        ("state", &buffers.state),
+        ("entries", &buffers.entries),
+        ("marks", &buffers.marks),
+        ("rights", &buffers.rights),
+    ];
+    for (name, words) in named {
         let set: Vec<_> = words.iter().enumerate().filter(|(_, word)| **word != 0).collect();
         let _ = writeln!(text, "{name}: {} words, {} not zero", words.len(), set.len());
         for (index, word) in set.iter().take(40) {

@@ -56,6 +56,7 @@ pub struct Sides {
     state: Guarded,
     entries: Guarded,
     marks: Guarded,
+    rights: Guarded,
     output: Guarded,
     model: Buffers,
     /// What was compared so far.
@@ -79,9 +80,9 @@ pub struct Difference {
 impl Sides {
     /// Both sides on empty buffers.
     pub fn new(subject: Subject) -> Self {
-        let (state, entries, marks, output) = Default::default();
+        let (state, entries, marks, rights, output) = Default::default();
         let (model, tally) = Default::default();
-        let mut sides = Sides { subject, state, entries, marks, output, model, tally };
+        let mut sides = Sides { subject, state, entries, marks, rights, output, model, tally };
         sides.set(&Buffers::default());
         sides
     }
@@ -91,13 +92,27 @@ impl Sides {
         self.state.set(&buffers.state);
         self.entries.set(&buffers.entries);
         self.marks.set(&buffers.marks);
+        self.rights.set(&buffers.rights);
         self.output.set(&buffers.output);
         self.model.clone_from(buffers);
     }
 
     fn lend(&mut self) -> Lent<'_> {
-        let Sides { state, entries, marks, output, .. } = self;
-        Lent { state: state.middle(), entries: entries.middle(), marks: marks.middle(), output: output.middle() }
+        let Sides { state, entries, marks, rights, output, .. } = self;
+        Lent {
+            state: state.middle(),
+            entries: entries.middle(),
+            marks: marks.middle(),
+            rights: rights.middle(),
+            output: output.middle(),
+        }
+    }
+
+    /// Gives both sides these rights, and leaves the other buffers as they are.
+    pub fn set_rights(&mut self, rights: &[u64]) {
+        self.rights.set(rights);
+        self.model.rights.clear();
+        self.model.rights.extend(rights);
     }
 
     /// Changes both sides' buffers in the same way.
@@ -115,9 +130,10 @@ impl Sides {
     pub fn call(&mut self, call: Call) -> Result<Outcome, Box<Difference>> {
         let subject = (self.subject)(call, &mut self.lend());
         let model = model(call, &mut self.model.lend());
-        let Buffers { state, entries, marks, output } = &self.model;
+        let Buffers { state, entries, marks, rights, output } = &self.model;
         let log_is = self.state.is(state) && self.entries.is(entries);
-        if subject == model && log_is && self.marks.is(marks) && self.output.is(output) {
+        let others_are = self.marks.is(marks) && self.rights.is(rights) && self.output.is(output);
+        if subject == model && log_is && others_are {
             self.tally.count(call, &model);
             return Ok(model);
         }
@@ -129,6 +145,7 @@ impl Sides {
             ("state", &self.state, &self.model.state),
             ("entries", &self.entries, &self.model.entries),
             ("marks", &self.marks, &self.model.marks),
+            ("rights", &self.rights, &self.model.rights),
             ("output", &self.output, &self.model.output),
         ];
         let mut words = vec![];
@@ -159,7 +176,8 @@ mod tests {
     // No safe subject reaches the words around its buffers, so they are changed for it here.
     #[test]
     fn finds_changes_around_the_buffers() {
-        let buffers = Buffers { state: vec![1; 3], entries: vec![], marks: vec![4; 2], output: vec![2; 5] };
+        let (state, marks, rights, output) = (vec![1; 3], vec![4; 2], vec![6; 16], vec![2; 5]);
+        let buffers = Buffers { state, entries: vec![], marks, rights, output };
         let changed = |change: fn(&mut Sides)| {
             let mut sides = Sides::new(model);
             sides.set(&buffers);
@@ -172,6 +190,8 @@ mod tests {
         assert_eq!(changed(|sides| sides.entries.0[0] = 0), [("entries", -17)]);
         assert_eq!(changed(|sides| sides.marks.0[AROUND + 2] = 0), [("marks", 2)]);
         assert_eq!(changed(|sides| sides.marks.0[AROUND] = 0), [("marks", 0)]);
+        assert_eq!(changed(|sides| sides.rights.0[AROUND + 16] = 0), [("rights", 16)]);
+        assert_eq!(changed(|sides| sides.rights.0[AROUND + 15] = 0), [("rights", 15)]);
         assert_eq!(changed(|sides| *sides.output.0.last_mut().unwrap() = 0), [("output", 21)]);
         assert_eq!(changed(|sides| sides.output.0[AROUND] = 0), [("output", 0)]);
     }

@@ -1,5 +1,5 @@
-//! Every single-bit change of a log, on the check and on a step, and of its marks, on the calls that take them; and the log as it is,
-//! on every operation.
+//! Every single-bit change of a log, on the check and on a step, of its marks, on the calls that take them, and of rights, on every
+//! step; and the log as it is, on every operation.
 
 use crate::call::{Buffers, Call, Lent, Outcome, Subject};
 use crate::logs::Named;
@@ -8,13 +8,15 @@ use crate::sides::Sides;
 use model::Step;
 use model::layout::ENTRY_WORDS;
 use model::marks::{LIMIT, MARK_WORDS};
+use model::rights::RIGHTS_WORDS;
 use std::ops::Range;
 
 /// Compares every operation on the undamaged log.
 pub fn undamaged(subject: Subject, sides: &mut Sides, log: &Named) -> Result<(), String> {
     let mut buffers = log.buffers.clone();
     buffers.output = vec![3; ENTRY_WORDS];
-    let steps = (0..17).flat_map(|client| Step::ALL.map(|step| Call::Step(client, step)));
+    let without = (0..17).flat_map(|client| Step::ALL.map(|step| Call::Step(client, step)));
+    let steps = without.chain((0..17).flat_map(|client| Step::ALL.map(|step| Call::StepWith(client, step))));
     let windows = [(0, 0), (1, 0), (1, u64::MAX), (256, 0), (256, 1 << 40), (257, 0), (u64::MAX, 0)];
     let windows = windows.map(|(length, limit)| Call::FirstWindow(length, limit));
     let advice = (0..17).map(Call::Advise);
@@ -43,6 +45,19 @@ pub fn mark_changes(subject: Subject, sides: &mut Sides, log: &Named) -> Result<
     buffers.output = vec![3; ENTRY_WORDS];
     let first = bits(log);
     each_change(subject, sides, log, &buffers, &ON_MARKS, first..first + 64 * MARK_WORDS)
+}
+
+/// Compares every step by the first two clients with each bit of the rights changed, one at a time: of all rights, so that one is missing
+/// or one too many is set, and of none, so that there is just one.
+pub fn rights_changes(subject: Subject, sides: &mut Sides, log: &Named) -> Result<(), String> {
+    let calls: Vec<Call> = (0..2).flat_map(|client| Step::ALL.map(|step| Call::StepWith(client, step))).collect();
+    let mut buffers = log.buffers.clone();
+    let first = bits(log) + 64 * MARK_WORDS;
+    for rights in [buffers.rights.clone(), vec![0; RIGHTS_WORDS]] {
+        buffers.rights = rights;
+        each_change(subject, sides, log, &buffers, &calls, first..first + 64 * RIGHTS_WORDS)?;
+    }
+    Ok(())
 }
 
 /// The calls on marks: by the name of the first mark, by that of the last of 32, by one that no log here keeps, and by 0, which is one
@@ -92,26 +107,27 @@ fn each_change(
     Ok(())
 }
 
-/// The number of bits of a log. Those of its marks stand behind them.
+/// The number of bits of a log. Those of its marks stand behind them, and those of the rights behind these.
 pub fn bits(log: &Named) -> usize {
     64 * (log.buffers.state.len() + log.buffers.entries.len())
 }
 
 /// Changes one bit.
 pub fn flip(lent: &mut Lent, bit: usize) {
-    let word = lent.state.iter_mut().chain(&mut *lent.entries).chain(&mut *lent.marks).nth(bit / 64);
+    let log = lent.state.iter_mut().chain(&mut *lent.entries);
+    let word = log.chain(&mut *lent.marks).chain(&mut *lent.rights).nth(bit / 64);
     *word.expect("a bit of a buffer") ^= 1 << (bit % 64);
 }
 
 fn describe_bit(buffers: &Buffers, bit: usize) -> String {
     let mut index = bit / 64;
-    for (name, words) in [("state", &buffers.state), ("entry", &buffers.entries)] {
+    for (name, words) in [("state", &buffers.state), ("entry", &buffers.entries), ("mark", &buffers.marks)] {
         if index < words.len() {
             return format!("with bit {} of {name} word {index} changed", bit % 64);
         }
         index -= words.len();
     }
-    format!("with bit {} of mark word {index} changed", bit % 64)
+    format!("with bit {} of rights word {index} changed", bit % 64)
 }
 
 fn report(subject: Subject, call: Call, buffers: &Buffers, log: &Named, how: &str) -> String {

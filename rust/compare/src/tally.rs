@@ -4,20 +4,21 @@ use crate::call::{Call, Outcome};
 use model::{Answer, Step};
 use std::fmt;
 
-/// The operations, in the reference's order, each with the answers that it can give: 1 to 23 are refusals. None gives 14.
+/// The operations, in the reference's order, each with the answers that it can give: 1 to 24 are refusals. None gives 14. A step
+/// counts the same without rights and with them, and gives 24 only with them.
 const OPERATIONS: [(&str, &[usize]); 20] = [
     ("fresh", &[DONE, 1, 17]),
-    ("name", &[DONE, 1, 2, 3, 4]),
-    ("become", &[DONE, 1, 2, 3, 5, 6]),
-    ("abdicate", &[DONE, 1, 2, 3, 4, 7]),
-    ("fetch", &[DONE, 1, 2, 3, 7, 8]),
-    ("close last", &[DONE, WAS_CLOSED, BEHIND, 1, 2, 3, 7, 8, 9]),
-    ("finish", &[DONE, BEHIND, 1, 2, 3, 7, 8, 9]),
-    ("create", &[DONE, 1, 2, 3, 7, 8, 10]),
-    ("append", &[DONE, BEHIND, 1, 2, 3, 7, 8, 9]),
-    ("write", &[ENTRY, 1, 2, 3, 7, 8, 9, 11, 12, 13]),
-    ("write scores", &[ENTRY, 1, 2, 3, 7, 8, 9, 12, 13, 18, 19]),
-    ("close own", &[DONE, BEHIND, 1, 2, 3, 7, 8, 9]),
+    ("name", &[DONE, 1, 2, 3, 4, 24]),
+    ("become", &[DONE, 1, 2, 3, 5, 6, 24]),
+    ("abdicate", &[DONE, 1, 2, 3, 4, 7, 24]),
+    ("fetch", &[DONE, 1, 2, 3, 7, 8, 24]),
+    ("close last", &[DONE, WAS_CLOSED, BEHIND, 1, 2, 3, 7, 8, 9, 24]),
+    ("finish", &[DONE, BEHIND, 1, 2, 3, 7, 8, 9, 24]),
+    ("create", &[DONE, 1, 2, 3, 7, 8, 10, 24]),
+    ("append", &[DONE, BEHIND, 1, 2, 3, 7, 8, 9, 24]),
+    ("write", &[ENTRY, 1, 2, 3, 7, 8, 9, 11, 12, 13, 24]),
+    ("write scores", &[ENTRY, 1, 2, 3, 7, 8, 9, 12, 13, 18, 19, 24]),
+    ("close own", &[DONE, BEHIND, 1, 2, 3, 7, 8, 9, 24]),
     ("well formed", &[YES, NO]),
     ("advise", &[BECOME, ABDICATE, FETCH, CLOSE_LAST, FINISH, CREATE, APPEND, WRITE, CLOSE_OWN, NONE, 1, 2, 3]),
     ("read ledger", &[DONE, 1, 2, 15]),
@@ -28,7 +29,7 @@ const OPERATIONS: [(&str, &[usize]); 20] = [
     ("read mark", &[DONE, 1, 2, 16, 23]),
 ];
 
-const DONE: usize = 24;
+const DONE: usize = 25;
 const WAS_CLOSED: usize = DONE + 1;
 const BEHIND: usize = DONE + 2;
 const ENTRY: usize = DONE + 3;
@@ -105,7 +106,7 @@ impl Tally {
 fn operation(call: Call) -> usize {
     match call {
         Call::Fresh(_) => 0,
-        Call::Step(_, step) => match step {
+        Call::Step(_, step) | Call::StepWith(_, step) => match step {
             Step::Name => 1,
             Step::Become => 2,
             Step::Abdicate => 3,

@@ -5,7 +5,7 @@ use compare::sides::Sides;
 use compare::{buffers, histories, logs, sweep};
 use model::layout::{Client, Entry, Head, Ledger, client_index, ledger_index, place_index};
 use model::random::Random;
-use model::{Answer, Step, words};
+use model::{Answer, Step, rights, words};
 
 /// The first report, within this many tries.
 fn first(
@@ -39,8 +39,13 @@ fn on_copies(call: Call, lent: &Lent) -> Outcome {
 }
 
 fn copies(lent: &Lent) -> Buffers {
-    let Lent { state, entries, marks, output } = lent;
-    Buffers { state: state.to_vec(), entries: entries.to_vec(), marks: marks.to_vec(), output: output.to_vec() }
+    Buffers {
+        state: lent.state.to_vec(),
+        entries: lent.entries.to_vec(),
+        marks: lent.marks.to_vec(),
+        rights: lent.rights.to_vec(),
+        output: lent.output.to_vec(),
+    }
 }
 
 // Another: a closer that is behind goes on to create. The answer is right, a word isn't.
@@ -331,6 +336,133 @@ fn overlooks_a_marks_bit(call: Call, lent: &mut Lent) -> Outcome {
         }
         call => call::model(call, lent),
     }
+}
+
+// The right is looked for before the client's number, and so not found.
+fn right_before_the_client(call: Call, lent: &mut Lent) -> Outcome {
+    match (call, call::model(call, lent)) {
+        (Call::StepWith(..), Outcome::Answer(Answer::Refused(3))) => Outcome::Answer(Answer::Refused(24)),
+        (_, outcome) => outcome,
+    }
+}
+
+// The rights of finish and create are taken for each other's.
+fn swaps_finish_and_create(call: Call, lent: &mut Lent) -> Outcome {
+    let (finish, create) = (rights::bit(Step::Finish), rights::bit(Step::Create));
+    let swapped = |word: u64| match (word & finish, word & create) {
+        (0, 0) | (1.., 1..) => word,
+        _ => word ^ finish ^ create,
+    };
+    if !matches!(call, Call::StepWith(_, Step::Finish | Step::Create)) {
+        return call::model(call, lent);
+    }
+    lent.rights.iter_mut().for_each(|word| *word = swapped(*word));
+    let outcome = call::model(call, lent);
+    lent.rights.iter_mut().for_each(|word| *word = swapped(*word));
+    outcome
+}
+
+// The right is looked up in the word of the named leader.
+fn right_of_the_named_leader(call: Call, lent: &mut Lent) -> Outcome {
+    let Call::StepWith(client, step) = call else {
+        return call::model(call, lent);
+    };
+    // The scores are looked at before the right, so a refusal for them stays.
+    let before = on_copies(call, lent);
+    if !matches!(before.answer(), Some(Answer::Refused(1..=3 | 18 | 19))) {
+        let leader = Head::load(lent.state[0]).0.leader;
+        if !rights::allows(lent.rights, leader, step) {
+            return Outcome::Answer(Answer::Refused(24));
+        }
+        return call::model(Call::Step(client, step), lent);
+    }
+    before
+}
+
+// The content of the log is looked at before the length of the rights.
+fn content_before_the_length(call: Call, lent: &mut Lent) -> Outcome {
+    let outcome = call::model(call, lent);
+    let right_lengths = lent.state.len() == 527 && lent.entries.len() == 4096;
+    if let (Call::StepWith(..), Outcome::Answer(Answer::Refused(1))) = (call, &outcome)
+        && right_lengths
+        && !words::well_formed(lent.state, lent.entries)
+    {
+        return Outcome::Answer(Answer::Refused(2));
+    }
+    outcome
+}
+
+// Rights are looked at no further than their length and their words.
+fn ignores_rights(call: Call, lent: &mut Lent) -> Outcome {
+    match (call, on_copies(call, lent)) {
+        (Call::StepWith(client, step), Outcome::Answer(Answer::Refused(24))) => {
+            call::model(Call::Step(client, step), lent)
+        }
+        _ => call::model(call, lent),
+    }
+}
+
+// The right to a step is used up by it.
+fn uses_up_the_right(call: Call, lent: &mut Lent) -> Outcome {
+    let outcome = call::model(call, lent);
+    if let (Call::StepWith(client, step), true) = (call, outcome.changes()) {
+        lent.rights[client as usize] &= !rights::bit(step);
+    }
+    outcome
+}
+
+// Rights of a client that the log doesn't have are taken, for one bit of them.
+fn overlooks_a_right_beyond_the_count(call: Call, lent: &mut Lent) -> Outcome {
+    match call {
+        Call::StepWith(..) if lent.rights.len() == 16 && lent.rights[9] >> 63 == 1 => {
+            let kept = std::mem::take(&mut lent.rights[9]);
+            let outcome = call::model(call, lent);
+            lent.rights[9] = kept;
+            outcome
+        }
+        call => call::model(call, lent),
+    }
+}
+
+#[test]
+fn finds_wrong_rights() {
+    for compare in [histories::compare, buffers::compare] {
+        let report = first(compare, right_before_the_client, 300).expect("the fault is found");
+        assert!(report.contains("gives Answer(Refused(24)), the model Answer(Refused(3))"), "{report}");
+        let report = first(compare, swaps_finish_and_create, 300).expect("the fault is found");
+        assert!(report.contains("Answer(Refused(24))"), "{report}");
+        let report = first(compare, right_of_the_named_leader, 300).expect("the fault is found");
+        assert!(report.contains("Answer(Refused(24))"), "{report}");
+        let report = first(compare, ignores_rights, 300).expect("the fault is found");
+        assert!(report.contains("the model Answer(Refused(24))"), "{report}");
+        let report = first(compare, uses_up_the_right, 300).expect("the fault is found");
+        assert!(report.contains("  rights word "), "{report}");
+    }
+}
+
+// A history's log is well formed, so this shows only on other buffers.
+#[test]
+fn finds_content_before_the_length_of_rights() {
+    assert_eq!(first(histories::compare, content_before_the_length, 100), None);
+    let report = first(buffers::compare, content_before_the_length, 1000).expect("the fault is found");
+    assert!(report.contains("gives Answer(Refused(2)), the model Answer(Refused(1))"), "{report}");
+}
+
+// One step shows that rights are ignored: the history is that step.
+#[test]
+fn makes_a_history_under_rights_short() {
+    let report = first(histories::compare, ignores_rights, 100).expect("the fault is found");
+    let calls = history(&report);
+    assert!(calls.last().is_some_and(|call| call.contains(" under 16 words of rights [")), "{report}");
+    assert_eq!(calls.len(), 1, "{report}");
+}
+
+#[test]
+fn finds_an_overlooked_right() {
+    let log = &logs::all()[0];
+    let mut sides = Sides::new(overlooks_a_right_beyond_the_count);
+    let report = sweep::rights_changes(overlooks_a_right_beyond_the_count, &mut sides, log).unwrap_err();
+    assert!(report.contains("with bit 63 of rights word 9 changed"), "{report}");
 }
 
 #[test]

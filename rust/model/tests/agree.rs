@@ -4,7 +4,7 @@ use model::histories::Profile;
 use model::layout::{Client, ENTRY_WORDS, Entry, NONE, STATE_WORDS, client_index};
 use model::random::Random;
 use model::source::{Source, Taken};
-use model::{Answer, Step, words};
+use model::{Answer, Step, rights, words};
 
 fn fresh(client_count: u64) -> (Vec<u64>, Vec<u64>) {
     let (mut state, mut entries) = (vec![7; STATE_WORDS], vec![7; ENTRY_WORDS]);
@@ -23,11 +23,15 @@ fn histories_agree() {
         let (mut state, mut entries) = fresh(clients);
         for _ in 0..5_000 {
             let (client, step) = profile.next(&mut random, &source);
-            let answer = words::step(&mut state, &mut entries, client, step);
-            let agree = match source.step(client, step) {
+            let has_right = random.chance(98);
+            let answer =
+                words::step_with(&mut state, &mut entries, &lent(clients, client, step, has_right), client, step);
+            let agree = match source.step_with(has_right, client, step) {
                 Taken::Accepted(expected) => answer == expected,
                 Taken::Limit(number) => answer == Answer::Refused(number),
-                Taken::Forbidden => matches!(answer, Answer::Refused(number) if source.forbids_by(client, number)),
+                Taken::Forbidden => {
+                    matches!(answer, Answer::Refused(number) if source.forbids_with(has_right, client, number))
+                }
             };
             assert!(agree, "{client} {step:?}: {answer:?}");
             assert!((&state, &entries) == (&source.buffers().0, &source.buffers().1), "after {client} {step:?}");
@@ -36,6 +40,15 @@ fn histories_agree() {
         most = (most.0.max(source.md_next_lid), most.1.max(source.next_entry_id));
     }
     assert_eq!(most, (256, 4096), "the histories reach both limits");
+}
+
+/// All rights, or all but the client's to this step.
+fn lent(count: u64, client: u64, step: Step, has_right: bool) -> Vec<u64> {
+    let mut lent = rights::all(count);
+    if !has_right && client < count {
+        lent[client as usize] &= !rights::bit(step);
+    }
+    lent
 }
 
 fn readings_agree(source: &Source, state: &[u64], entries: &[u64]) {
