@@ -17,6 +17,9 @@ use Rattle.chain.specs.Operations.{Buffers, stepAnswer, afterStep, Result, fres
 use Rattle.chain.specs.Operations.{readLedgerChecks, readLedgerAnswer, readLedgerPart, readChainAnswer, readChainOutput}
 use Rattle.chain.specs.Windows.{firstWindow}
 use Rattle.chain.specs.Marks.{setChecks, setAnswer, afterSet, dropChecks, dropAnswer, afterDrop, readMarkAnswer, readMarkOutput}
+use Rattle.chain.specs.Plans.{forecast}
+use Rattle.plans.specs.declared.forecast.Forecast.{Forecast}
+use Rattle.plans.specs.Runs.{Foretells}
 use Rattle.chain.specs.Laws.Numbers.{NumbersBelow, step-numbers}
 use Rattle.fresh.specs.Fresh.{FreshResult}
 use Rattle.readers.specs.Locate.{partStart, Locates}
@@ -76,6 +79,16 @@ pub record ReadMarkCall (name : ℕ) (b : Buffers) (ms output : List ℕ) (answe
   pub answers : answer ≡ chainNumber (readMarkAnswer name b ms output)
   pub counts : count ≡ chainCount (readMarkAnswer name b ms output)
   pub output-words : after ≡ readMarkOutput name b ms output
+
+-- The forecast: its three counts.
+pub record ForecastCall (rights plan : List ℕ) (budget : ℕ) (b : Buffers) (entries ledgers refusals : ℕ) : Type 0 where
+  pub entries-added : entries ≡ forecast rights plan budget b .entries
+  pub ledgers-added : ledgers ≡ forecast rights plan budget b .ledgers
+  pub refused : refusals ≡ forecast rights plan budget b .refusals
+
+pub forecast-called : {rights plan : List ℕ} {budget : ℕ} {b : Buffers} {r : Forecast} → Foretells rights plan budget b r
+    → ForecastCall rights plan budget b (r .entries) (r .ledgers) (r .refusals)
+forecast-called o = record { entries-added = o .entries-added; ledgers-added = o .ledgers-added; refused = o .refused }
 
 -- Fresh, read ledger, set and drop number no entry.
 numbers-none : (cs : List (Check Refusal)) → NumbersBelow (first cs Refused Done)

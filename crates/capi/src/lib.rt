@@ -4,6 +4,7 @@ pub mod log;
 pub mod mark;
 mod number;
 pub mod permitted;
+pub mod plan;
 pub mod reading;
 pub mod step;
 pub mod version;
