@@ -3,13 +3,13 @@
  *
  * A log lives in two buffers of 64-bit words that the caller lends, one for the state and one for the entries. Nobody else writes them.
  * Persist both together after every step that is not refused. Marks, for those who keep any, are a third such buffer. Rights, for those
- * who limit their clients, are another, which is only read.
+ * who limit their clients, are another, which is only read, and so is a plan: steps as words, to be taken in a row.
  *
  * Buffers of any length and content are answered, and so is every number. A null pointer with length 0 is an empty buffer; as state,
  * entries, marks or rights it gives refusal 1, as every wrong length does. What the caller answers for: any other pointer is not null, is
  * aligned for uint64_t (that to scores for uint16_t) and is valid for as many words or scores as the length beside it says; the buffers of
- * one call do not overlap: state, entries, marks, rights, output and scores are separate pieces of memory; and no other thread uses them
- * during the call.
+ * one call do not overlap: state, entries, marks, rights, plan, output and scores are separate pieces of memory; and no other thread uses
+ * them during the call.
  *
  * Rust declares the same functions in an `extern "C"` block, and the structs as #[repr(C)].
  */
@@ -108,9 +108,10 @@ static inline uint64_t cindrolf_answer_place(uint64_t answer) { return answer & 
 #define CINDROLF_REFUSAL_MARKS_FULL UINT64_C(22)        /* there are 32 marks */
 #define CINDROLF_REFUSAL_MARK_NOT_KEPT UINT64_C(23)     /* no mark of this name is kept */
 #define CINDROLF_REFUSAL_MISSING_RIGHT UINT64_C(24)     /* the client lacks the right to this step */
+#define CINDROLF_REFUSAL_UNKNOWN_STEP UINT64_C(25)      /* the step word names no step: its number is 10 or above */
 
 /* What cindrolf_advise answers where it does not refuse: the number of a step, or that there is none to take. The steps are numbered in
- * this order. Name is never advised. */
+ * this order, in step words too. Name is never advised. */
 #define CINDROLF_STEP_NAME UINT64_C(0)
 #define CINDROLF_STEP_BECOME UINT64_C(1)
 #define CINDROLF_STEP_ABDICATE UINT64_C(2)
@@ -210,6 +211,38 @@ uint64_t cindrolf_write_scores_with(uint64_t *state, size_t state_length, uint64
                                     size_t rights_length, uint64_t client, const uint16_t *scores, size_t scores_length);
 uint64_t cindrolf_close_own_with(uint64_t *state, size_t state_length, uint64_t *entries, size_t entries_length, const uint64_t *rights,
                                  size_t rights_length, uint64_t client);
+
+/* Plans. A step word stands for a step by a client: the step's number as above in the 4 most significant bits, the client in the 8 below,
+ * and a value in 52, which counts only for a write. No word stands for a write of scores. */
+
+/* The word of this step, client and value. Where one of them has no room in its bits the word is UINT64_MAX, which names no step. */
+static inline uint64_t cindrolf_step_word(uint64_t step, uint64_t client, uint64_t value) {
+    if (step > 15 || client > 255 || value >> 52 != 0)
+        return UINT64_MAX;
+    return step << 60 | client << 52 | value;
+}
+
+/* Takes the steps of a plan one after the other under these rights, up to the budget, and gives how many it took: the smaller of the budget
+ * and the plan's length. A refused step counts, changes nothing, and the next is taken. Both buffers end as after the same steps made singly,
+ * by the functions above that take rights. The run itself refuses nothing: a word that names no step has refusal 25 as its answer, before
+ * any other, and where the buffers or the rights have wrong lengths (1) or are not well formed (2) each step has that answer, and counts.
+ * The buffers are checked once, whatever the length of the plan. */
+uint64_t cindrolf_run_plan(uint64_t *state, size_t state_length, uint64_t *entries, size_t entries_length, const uint64_t *rights,
+                           size_t rights_length, const uint64_t *plan, size_t plan_length, uint64_t budget);
+
+/* What a run adds: entries, ledger numbers, which are those of done creates, and how many of its steps are refused. Was closed and behind
+ * are no refusals. */
+struct cindrolf_plan_counts {
+    uint64_t entries;
+    uint64_t ledgers;
+    uint64_t refusals;
+};
+
+/* Exactly what cindrolf_run_plan would add, called with the same buffers, rights, plan and budget. It changes nothing. It works on a copy of
+ * the log, for which it needs some 37 KB of stack. */
+struct cindrolf_plan_counts cindrolf_forecast(const uint64_t *state, size_t state_length, const uint64_t *entries, size_t entries_length,
+                                              const uint64_t *rights, size_t rights_length, const uint64_t *plan, size_t plan_length,
+                                              uint64_t budget);
 
 /* The step that a client should take next, as numbered above; CINDROLF_NO_STEP where another client is named and this one does not lead; or
  * refusal 1, 2 or 3. It changes nothing. On a log that began with cindrolf_fresh, with two ledger numbers and one entry left, a named leader

@@ -1,6 +1,6 @@
 /* The version of the library, null pointers with length 0, which every function takes for an empty buffer, an empty ledger that
  * its leader closes, the limits of lent scores, wide values, the numbers and places that writes answer, those of advised steps,
- * marks, and rights. It compiles as C and as C++. */
+ * marks, rights, and plans. It compiles as C and as C++. */
 #include "cindrolf.h"
 
 #include <inttypes.h>
@@ -560,6 +560,175 @@ static void check_rights(void) {
     expect("the word behind the rights", rights[CINDROLF_RIGHTS_WORDS], 9);
 }
 
+static uint64_t run(const uint64_t *plan, size_t length, uint64_t budget) {
+    return cindrolf_run_plan(state, CINDROLF_STATE_WORDS, entries, CINDROLF_ENTRY_WORDS, rights, CINDROLF_RIGHTS_WORDS, plan, length, budget);
+}
+
+static void expect_forecast(const uint64_t *plan, size_t length, uint64_t budget, uint64_t added, uint64_t ledgers, uint64_t refusals) {
+    struct cindrolf_plan_counts counts = cindrolf_forecast(state, CINDROLF_STATE_WORDS, entries, CINDROLF_ENTRY_WORDS, rights,
+                                                           CINDROLF_RIGHTS_WORDS, plan, length, budget);
+    expect("entries that a run would add", counts.entries, added);
+    expect("ledger numbers that a run would add", counts.ledgers, ledgers);
+    expect("refusals of a run", counts.refusals, refusals);
+}
+
+static uint64_t entry_count(void) { return state[0] >> 51; }
+static uint64_t next_ledger(void) { return state[0] >> 42 & 511; }
+
+/* The order N B A F L K C P W O, in the 4 most significant bits; then the client, and the value. */
+static void check_step_words(void) {
+    const uint64_t numbers[] = {CINDROLF_STEP_NAME,       CINDROLF_STEP_BECOME, CINDROLF_STEP_ABDICATE, CINDROLF_STEP_FETCH,
+                                CINDROLF_STEP_CLOSE_LAST, CINDROLF_STEP_FINISH, CINDROLF_STEP_CREATE,   CINDROLF_STEP_APPEND,
+                                CINDROLF_STEP_WRITE,      CINDROLF_STEP_CLOSE_OWN};
+    for (uint64_t i = 0; i < sizeof numbers / sizeof numbers[0]; i++)
+        expect("a step's word", cindrolf_step_word(numbers[i], 0, 0), i * UINT64_C(0x1000000000000000));
+    expect("a write", cindrolf_step_word(CINDROLF_STEP_WRITE, 3, 9), UINT64_C(0x8030000000000009));
+    expect("the widest word", cindrolf_step_word(14, 255, UINT64_C(0xFFFFFFFFFFFFF)), UINT64_C(0xEFFFFFFFFFFFFFFF));
+    expect("a step that has no room", cindrolf_step_word(16, 0, 0), UINT64_MAX);
+    expect("a client that has no room", cindrolf_step_word(CINDROLF_STEP_NAME, 256, 0), UINT64_MAX);
+    expect("a value that has no room", cindrolf_step_word(CINDROLF_STEP_WRITE, 0, UINT64_C(1) << 52), UINT64_MAX);
+    expect("the refusal of such words", CINDROLF_REFUSAL_UNKNOWN_STEP, 25);
+}
+
+/* A handover: client 0 leads and writes, client 1 takes over. Among the steps are refusals of six kinds, a was closed and a behind. */
+static const uint64_t handover[] = {
+    UINT64_C(0x1000000000000000), /* 0 becomes */
+    UINT64_C(0x3000000000000000), /* 0 fetches */
+    UINT64_C(0x8000000000000005), /* 0 writes: refused, 8 */
+    UINT64_C(0x6000000000000000), /* 0 creates */
+    UINT64_C(0x7000000000000000), /* 0 appends */
+    UINT64_C(0x8000000000000007), /* 0 writes 7 */
+    UINT64_C(0xA000000000000000), /* no step: refused, 25 */
+    UINT64_C(0x800FFFFFFFFFFFFF), /* 0 writes the widest value */
+    UINT64_C(0x8100000000000009), /* client 16: refused, 3 */
+    UINT64_C(0x001FFFFFFFFFFFFF), /* 1 is named: the value plays no part */
+    UINT64_C(0x1010000000000000), /* 1 becomes */
+    UINT64_C(0x3010000000000000), /* 1 fetches */
+    UINT64_C(0x4010000000000000), /* 1 fences */
+    UINT64_C(0x8000000000000008), /* 0 writes: refused, 12 */
+    UINT64_C(0x5010000000000000), /* 1 finishes */
+    UINT64_C(0x6010000000000000), /* 1 creates */
+    UINT64_C(0x7010000000000000), /* 1 appends */
+    UINT64_C(0x9000000000000000), /* 0 closes its own: behind */
+    UINT64_C(0x8010000000000009), /* 1 writes 9 */
+    UINT64_C(0x9010000000000000), /* 1 closes its own */
+    UINT64_C(0x1000000000000000), /* 0 becomes: refused, 6 */
+    UINT64_C(0x0000000000000000), /* 0 is named */
+    UINT64_C(0x2010000000000000), /* 1 abdicates: refused, 24 */
+    UINT64_C(0x1000000000000000), /* 0 becomes */
+    UINT64_C(0x3000000000000000), /* 0 fetches */
+    UINT64_C(0x4000000000000000), /* 0 closes the last: was closed */
+    UINT64_C(0x6000000000000000), /* 0 creates */
+};
+
+#define HANDOVER (sizeof handover / sizeof handover[0])
+
+/* What a run up to so many of these steps adds, counted by hand from the lines above. */
+static const struct {
+    size_t budget;
+    uint64_t entries, ledgers, refusals;
+} handed_over[] = {{0, 0, 0, 0},  {2, 0, 0, 0},  {3, 0, 0, 1},  {6, 1, 1, 1},  {9, 2, 1, 3},        {14, 2, 1, 4},
+                   {18, 2, 2, 4}, {19, 3, 2, 4}, {22, 3, 2, 5}, {23, 3, 2, 6}, {HANDOVER, 3, 3, 6}};
+
+/* One step of a plan as a call of its own. A word that is no step is none. */
+static void take_singly(uint64_t word) {
+    uint64_t number = word >> 60, client = word >> 52 & 255;
+    if (number == 8)
+        write_with(client, word & UINT64_C(0xFFFFFFFFFFFFF));
+    else if (number < 10)
+        take_with(steps[number == 9 ? 8 : number].with, client);
+}
+
+static void begin_plan(void) {
+    cindrolf_fresh(state, CINDROLF_STATE_WORDS, entries, CINDROLF_ENTRY_WORDS, 2);
+    lend_without(CINDROLF_RIGHT_ABDICATE);
+}
+
+static void check_runs(void) {
+    static uint64_t before[CINDROLF_STATE_WORDS], singly[CINDROLF_STATE_WORDS], stored[CINDROLF_ENTRY_WORDS], plan[HANDOVER];
+    memcpy(plan, handover, sizeof plan);
+    for (size_t i = 0; i < sizeof handed_over / sizeof handed_over[0]; i++) {
+        size_t budget = handed_over[i].budget;
+        begin_plan();
+        for (size_t word = 0; word < budget; word++)
+            take_singly(handover[word]);
+        memcpy(singly, state, sizeof state);
+        memcpy(stored, entries, sizeof entries);
+        begin_plan();
+        memcpy(before, state, sizeof state);
+        expect_forecast(plan, HANDOVER, budget, handed_over[i].entries, handed_over[i].ledgers, handed_over[i].refusals);
+        expect("state words that a forecast changed", (uint64_t)(memcmp(before, state, sizeof state) != 0), 0);
+        expect("entries after a forecast", entries[0], 0);
+        expect("steps taken", run(plan, HANDOVER, budget), budget);
+        expect("state words beside single steps", (uint64_t)(memcmp(singly, state, sizeof state) != 0), 0);
+        expect("entries beside single steps", (uint64_t)(memcmp(stored, entries, sizeof entries) != 0), 0);
+        expect("entries added", entry_count(), handed_over[i].entries);
+        expect("ledger numbers added", next_ledger() - 1, handed_over[i].ledgers);
+    }
+    expect("the first entry", entries[0], UINT64_C(0x0100000000000007));
+    expect("the widest value", entries[1], UINT64_C(0x010FFFFFFFFFFFFF));
+    expect("the last entry", entries[2], UINT64_C(0x0210000000000009));
+    expect("words of the plan that changed", (uint64_t)(memcmp(plan, handover, sizeof plan) != 0), 0);
+    expect("the rights of client 1", rights[1], CINDROLF_ALL_RIGHTS & ~CINDROLF_RIGHT_ABDICATE);
+    /* A budget beyond the plan, and no plan. */
+    const uint64_t name = cindrolf_step_word(CINDROLF_STEP_NAME, 1, 0);
+    expect_forecast(&name, 1, UINT64_MAX, 0, 0, 0);
+    expect("steps taken, with budget to spare", run(&name, 1, UINT64_MAX), 1);
+    expect("the named leader", state[0] >> 30 & 15, 1);
+    expect("steps taken, again", run(&name, 1, 2), 1);
+    expect_forecast(&name, 1, UINT64_MAX, 0, 0, 1);
+    expect("steps taken of no plan", run(NULL, 0, UINT64_MAX), 0);
+    expect_forecast(NULL, 0, UINT64_MAX, 0, 0, 0);
+}
+
+/* On buffers that are no log, or under rights that are none of it, each step is refused, counts, and changes nothing. */
+static void refuse_plan(uint64_t *s, size_t s_length, uint64_t *e, size_t e_length, const uint64_t *r, size_t r_length) {
+    static uint64_t before[CINDROLF_STATE_WORDS], stored[CINDROLF_ENTRY_WORDS];
+    const uint64_t budgets[] = {0, 1, HANDOVER - 1, HANDOVER, UINT64_MAX}, taken[] = {0, 1, HANDOVER - 1, HANDOVER, HANDOVER};
+    memcpy(before, state, sizeof state);
+    memcpy(stored, entries, sizeof entries);
+    for (size_t i = 0; i < sizeof budgets / sizeof budgets[0]; i++) {
+        struct cindrolf_plan_counts counts = cindrolf_forecast(s, s_length, e, e_length, r, r_length, handover, HANDOVER, budgets[i]);
+        expect("entries forecast of no log", counts.entries, 0);
+        expect("ledger numbers forecast of no log", counts.ledgers, 0);
+        expect("refusals forecast of no log", counts.refusals, taken[i]);
+        expect("steps taken of no log", cindrolf_run_plan(s, s_length, e, e_length, r, r_length, handover, HANDOVER, budgets[i]), taken[i]);
+    }
+    expect("state words that the run changed", (uint64_t)(memcmp(before, state, sizeof state) != 0), 0);
+    expect("entries that the run changed", (uint64_t)(memcmp(stored, entries, sizeof entries) != 0), 0);
+}
+
+static void check_refused_plans(void) {
+    begin_plan();
+    refuse_plan(NULL, 0, NULL, 0, NULL, 0);
+    refuse_plan(state, CINDROLF_STATE_WORDS - 1, entries, CINDROLF_ENTRY_WORDS, rights, CINDROLF_RIGHTS_WORDS);
+    refuse_plan(state, CINDROLF_STATE_WORDS, entries, CINDROLF_ENTRY_WORDS - 1, rights, CINDROLF_RIGHTS_WORDS);
+    refuse_plan(state, CINDROLF_STATE_WORDS, entries, CINDROLF_ENTRY_WORDS, rights, CINDROLF_RIGHTS_WORDS - 1);
+    refuse_plan(state, CINDROLF_STATE_WORDS, entries, CINDROLF_ENTRY_WORDS, rights, CINDROLF_RIGHTS_WORDS + 1);
+    refuse_plan(state, CINDROLF_STATE_WORDS, entries, CINDROLF_ENTRY_WORDS, NULL, 0);
+    rights[2] = CINDROLF_RIGHT_NAME;
+    refuse_plan(state, CINDROLF_STATE_WORDS, entries, CINDROLF_ENTRY_WORDS, rights, CINDROLF_RIGHTS_WORDS);
+    rights[2] = 0;
+    entries[CINDROLF_ENTRY_WORDS - 1] = 1;
+    refuse_plan(state, CINDROLF_STATE_WORDS, entries, CINDROLF_ENTRY_WORDS, rights, CINDROLF_RIGHTS_WORDS);
+    entries[CINDROLF_ENTRY_WORDS - 1] = 0;
+    state[526] = 1;
+    refuse_plan(state, CINDROLF_STATE_WORDS, entries, CINDROLF_ENTRY_WORDS, rights, CINDROLF_RIGHTS_WORDS);
+    /* Words that name no step are refused one by one on a log too. */
+    begin_plan();
+    const uint64_t unknown[] = {UINT64_C(0xA000000000000000), UINT64_C(0xB010000000000001), UINT64_C(0xC000000000000000),
+                                UINT64_C(0xD000000000000000), UINT64_C(0xE000000000000000), UINT64_MAX};
+    expect_forecast(unknown, 6, 5, 0, 0, 5);
+    expect("steps taken that are none", run(unknown, 6, 7), 6);
+    expect("state word 0 of a fresh log", state[0], UINT64_C(0x0000040004000000));
+}
+
+static void check_plans(void) {
+    check_step_words();
+    check_runs();
+    check_refused_plans();
+}
+
 int main(void) {
     expect("version", cindrolf_version(), CINDROLF_VERSION);
 
@@ -594,5 +763,6 @@ int main(void) {
     check_recovery();
     check_marks();
     check_rights();
+    check_plans();
     return wrong;
 }

@@ -1,12 +1,14 @@
-//! What a write, a close, the check, a reading, a search for a window and a sum of scores cost, beside plain Rust, in one run. See `--help`.
+//! What a write, a close, the check, a reading, a search for a window, a sum of scores and a plan of writes cost, beside plain Rust, in one
+//! run. See `--help`.
 
 mod checks;
 mod measure;
+mod plans;
 mod plot;
 mod sums;
 mod windows;
 
-use cindrolf::{Progress, calls};
+use cindrolf::{Forecast, Progress, calls, value_of};
 use compare::arguments;
 use compare::call::Buffers;
 use compare::logs::chain;
@@ -21,8 +23,8 @@ use std::process::ExitCode;
 use std::time::Duration;
 
 const HELP: &str = "\
-Times a write, a close, the check, a reading, a search for a window and a sum of scores of the proved library beside
-plain Rust, in turn.
+Times a write, a close, the check, a reading, a search for a window, a sum of scores and a plan of writes of the proved
+library beside plain Rust, in turn.
 
   --rounds N     rounds for each table (default 201)
   --plot FILE    where the plot of cost against entries and ledgers goes (default target/bench/cost.svg)
@@ -154,6 +156,51 @@ fn searches(log: &Buffers, length: u64) -> Vec<Candidate<'_>> {
     ]
 }
 
+/// Runs a plan of writes and undoes it, so that each run meets the same log.
+fn run<'a, T>(
+    name: &'static str,
+    log: &Buffers,
+    plan: &'a [u64],
+    run: impl Fn(&mut [u64], &mut [u64], &[u64]) -> T + 'a,
+) -> Candidate<'a> {
+    let mut log = log.clone();
+    let (head, count) = (log.state[0], (log.state[0] >> 51) as usize);
+    Candidate::new(name, move || {
+        black_box(run(black_box(&mut log.state), black_box(&mut log.entries), black_box(plan)));
+        log.state[0] = head;
+        log.entries[count..count + plan.len()].fill(0);
+    })
+}
+
+/// A plan of writes by client 0, on a log with room for all of them.
+fn runs<'a>(log: &'a Buffers, plan: &'a [u64]) -> Vec<Candidate<'a>> {
+    let (state, entries, rights) = (&log.state, &log.entries, &log.rights);
+    let forecast = calls::forecast(state, entries, rights, plan, u64::MAX);
+    assert_eq!(forecast, Forecast { entries: plan.len() as u64, ledgers: 0, refusals: 0 });
+    vec![
+        run("library", log, plan, |state, entries, plan| {
+            calls::run_plan(state, entries, black_box(rights), plan, u64::MAX)
+        }),
+        run("writes, one check", log, plan, |state, entries, plan| {
+            plans::checked_run(state, entries, black_box(rights), plan, true)
+        }),
+        run("without places", log, plan, |state, entries, plan| {
+            plans::checked_run(state, entries, black_box(rights), plan, false)
+        }),
+        run("append, one check", log, plan, |state, entries, plan| {
+            let log = calls::well_formed(state, entries);
+            log && plan.iter().all(|&word| checks::trusting_write(state, entries, 0, value_of(word)).is_some())
+        }),
+        run("library, singly", log, plan, |state, entries, plan| {
+            plan.iter().filter(|&&word| calls::write_with(state, entries, rights, 0, value_of(word)).is_ok()).count()
+        }),
+        check("library forecast", log, |state, entries| {
+            calls::forecast(state, entries, rights, black_box(plan), u64::MAX)
+        }),
+        check("library check", log, calls::well_formed),
+    ]
+}
+
 /// The sum of 4,000 scores. The library's is its write of them, less its write of their sum.
 fn sums_of_scores(log: &Buffers, rounds: usize) -> Vec<Times> {
     let mut random = Random::new(1);
@@ -223,9 +270,11 @@ fn tables(rounds: usize) {
         print("full, one ledger", name, &compared(&interleaved(searches(&chain(16, 1, 4096), length), rounds, SLICE)));
     }
     print("empty", "4000 scores", &sums_of_scores(&logs[0].1, rounds));
+    let plan: Vec<u64> = (0..4_000).map(|value| (8 << 60) | (value * 0x1_0001)).collect();
+    print("empty", "4000 writes", &compared(&interleaved(runs(&logs[0].1, &plan), rounds, SLICE)));
     println!(
         "On the full log the write is the one that fills it, entry 4,095. The library's sum of 4,000 scores is what its \
-         write of them takes more than its write of their sum, round by round. Load after: {}.",
+         write of them takes more than its write of their sum, round by round. The 4,000 writes are one plan. Load after: {}.",
         about("/proc/loadavg", "")
     );
 }

@@ -27,12 +27,31 @@
 //! # Ok::<(), Error>(())
 //! ```
 //!
+//! A plan is step words, of any length and content. A run of it refuses nothing itself, so it has no error.
+//!
+//! ```
+//! use cindrolf::{Error, Forecast, Rights, calls};
+//!
+//! let (mut state, mut entries) = (vec![0; 527], vec![0; 4096]);
+//! calls::fresh(&mut state, &mut entries, 1)?;
+//! let (rights, plan) = (Rights::all(1)?, [1 << 60, 3 << 60, 6 << 60, 7 << 60, (8 << 60) + 201]);
+//! let forecast = calls::forecast(&state, &entries, rights.words(), &plan, u64::MAX);
+//! assert_eq!(forecast, Forecast { entries: 1, ledgers: 1, refusals: 0 });
+//! assert_eq!(calls::run_plan(&mut state, &mut entries, rights.words(), &plan, u64::MAX), 5);
+//! assert_eq!(entries[0], (1 << 56) + 201);
+//! // Buffers that hold no log: each step is refused, and counts.
+//! assert_eq!(calls::run_plan(&mut [], &mut [], rights.words(), &plan, 3), 3);
+//! # Ok::<(), Error>(())
+//! ```
+//!
 //! The unsafe blocks below are sound for one reason. The library reads and writes only the words and scores that it is
 //! lent by pointer and length, keeps no pointer, and answers every content. The slices give it pointers that are aligned, not
 //! null and valid for their lengths. A `&mut` slice is lent to nobody else meanwhile, so what the library changes
 //! overlaps nothing. Each block's comment adds what is special to it.
 
-use crate::{Advice, CloseLast, Error, Finish, LedgerNumber, MarkName, Position, Progress, ReadingPlace, answer, raw};
+use crate::{
+    Advice, CloseLast, Error, Finish, Forecast, LedgerNumber, MarkName, Position, Progress, ReadingPlace, answer, raw,
+};
 
 /// Makes the buffers an empty log for 1 to 16 clients, of which client 0 is the named leader.
 pub fn fresh(state: &mut [u64], entries: &mut [u64], client_count: u64) -> Result<(), Error> {
@@ -174,6 +193,45 @@ pub fn write_scores_with(
         )
     };
     answer::entry(number)
+}
+
+/// Takes the steps of a plan one after the other under these rights, up to the budget, and answers how many it took:
+/// the smaller of the budget and the plan's length. A refused step counts.
+pub fn run_plan(state: &mut [u64], entries: &mut [u64], rights: &[u64], plan: &[u64], budget: u64) -> u64 {
+    // SAFETY: the state and the entries are exclusive, the rights and the plan are only read, and the budget is any
+    // number.
+    unsafe {
+        raw::cindrolf_run_plan(
+            state.as_mut_ptr(),
+            state.len(),
+            entries.as_mut_ptr(),
+            entries.len(),
+            rights.as_ptr(),
+            rights.len(),
+            plan.as_ptr(),
+            plan.len(),
+            budget,
+        )
+    }
+}
+
+/// What [`run_plan`] would add, called with the same buffers, rights, plan and budget.
+pub fn forecast(state: &[u64], entries: &[u64], rights: &[u64], plan: &[u64], budget: u64) -> Forecast {
+    // SAFETY: nothing is changed, and the budget is any number; the answer is a struct of three numbers.
+    let raw::PlanCounts { entries, ledgers, refusals } = unsafe {
+        raw::cindrolf_forecast(
+            state.as_ptr(),
+            state.len(),
+            entries.as_ptr(),
+            entries.len(),
+            rights.as_ptr(),
+            rights.len(),
+            plan.as_ptr(),
+            plan.len(),
+            budget,
+        )
+    };
+    Forecast { entries, ledgers, refusals }
 }
 
 /// Whether the buffers have the right lengths and hold a well-formed log.

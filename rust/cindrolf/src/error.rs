@@ -152,10 +152,12 @@ refusals! {
     MarkNotKept = 23, "no mark of this name is kept";
     /// The client lacks the right to this step.
     MissingRight = 24, "the client lacks the right to this step";
+    /// The step word names no step. It is the answer of such a step in a run, which gives no answers, and so of no call.
+    UnknownStep = 25, "the step word names no step";
 }
 
 impl Refusal {
-    /// The refusal's number, 1 to 24.
+    /// The refusal's number, 1 to 25.
     pub const fn number(self) -> u64 {
         self as u64
     }
@@ -175,7 +177,7 @@ mod tests {
 
     #[test]
     fn numbers() {
-        assert_eq!(Refusal::ALL.len(), 24);
+        assert_eq!(Refusal::ALL.len(), 25);
         for (number, &refusal) in (1..).zip(Refusal::ALL) {
             assert_eq!(refusal.number(), number);
             assert_eq!(Refusal::from_number(number), Some(refusal));
@@ -189,6 +191,8 @@ mod tests {
         assert_eq!(Error::from(Refusal::LogFull).to_string(), "the log is full (refusal 13)");
         let missing = Error::from(Refusal::MissingRight).to_string();
         assert_eq!(missing, "the client lacks the right to this step (refusal 24)");
+        let unknown = Error::from(Refusal::UnknownStep).to_string();
+        assert_eq!(unknown, "the step word names no step (refusal 25)");
         let other = Error::OtherVersion(1).to_string();
         assert_eq!(other, "the library has version 1, and the crate is written for version 3");
         assert!(Error::UnknownAnswer(300).to_string().starts_with("the library answered 300, "));

@@ -139,12 +139,31 @@
 //! assert_eq!(log.under(&rights).become_leader(0), Ok(()));
 //! # Ok::<(), Error>(())
 //! ```
+//!
+//! A planner sends a run as [`StepWord`]s. A [`Forecast`] says what the run would add, before any of it is taken.
+//!
+//! ```
+//! use cindrolf::{Error, Forecast, Log, Rights, Step, StepWord};
+//!
+//! let mut log = Log::fresh(1)?;
+//! let rights = Rights::all(1)?;
+//! let steps = [Step::Become, Step::Fetch, Step::Create, Step::Append, Step::Write(201), Step::Write(202), Step::Become];
+//! let plan = steps.map(|step| StepWord::new(0, step)).into_iter().collect::<Result<Vec<_>, _>>()?;
+//!
+//! // The last step, by a client that leads already, would be refused, and the budget ends before it.
+//! assert_eq!(log.forecast(&rights, &plan, 7), Forecast { entries: 2, ledgers: 1, refusals: 1 });
+//! assert_eq!(log.forecast(&rights, &plan, 6), Forecast { entries: 2, ledgers: 1, refusals: 0 });
+//! assert_eq!(log.run_plan(&rights, &plan, 6), 6);
+//! assert_eq!(log.view().entry_count(), 2);
+//! # Ok::<(), Error>(())
+//! ```
 
 mod answer;
 pub mod calls;
 mod error;
 mod log;
 mod mark;
+mod plan;
 #[doc(hidden)]
 pub mod raw;
 mod rights;
@@ -155,6 +174,7 @@ pub use answer::{Advice, CloseLast, EntryNumber, Finish, LedgerNumber, LedgerPla
 pub use error::{Error, Refusal};
 pub use log::{Log, LogMut, LogRef, PermittedLog};
 pub use mark::MarkName;
+pub use plan::{Forecast, Step, StepWord};
 pub use rights::{Right, Rights};
 pub use version::{VERSION, check_version};
 pub use view::{Client, Entry, Ledger, ListPlace, Remembered, Stage, View};

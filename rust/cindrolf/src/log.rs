@@ -1,8 +1,8 @@
 //! A log that owns its buffers, and logs that borrow them.
 
 use crate::{
-    Advice, CloseLast, ENTRY_WORDS, Error, Finish, LedgerNumber, MarkName, Position, Progress, ReadingPlace, Refusal,
-    Rights, STATE_WORDS, View, calls, check_version,
+    Advice, CloseLast, ENTRY_WORDS, Error, Finish, Forecast, LedgerNumber, MarkName, Position, Progress, ReadingPlace,
+    Refusal, Rights, STATE_WORDS, StepWord, View, calls, check_version,
 };
 
 /// A log that owns its two buffers.
@@ -191,6 +191,12 @@ impl<'a> LogRef<'a> {
         Ok(View::new(self.state, self.entries))
     }
 
+    /// What a run of this plan would add under these rights and this budget: exactly what
+    /// [`run_plan`](LogMut::run_plan) with the same then adds.
+    pub fn forecast(&self, rights: &Rights, plan: &[StepWord], budget: u64) -> Forecast {
+        calls::forecast(self.state, self.entries, rights.words(), StepWord::words(plan), budget)
+    }
+
     /// The step that a client should take next, if there is one.
     pub fn advise(&self, client: u64) -> Result<Option<Advice>, Error> {
         calls::advise(self.state, self.entries, client)
@@ -344,6 +350,19 @@ macro_rules! operations {
             /// behind it no longer leads.
             pub fn close_own(&mut self, client: u64) -> Result<Progress, Error> {
                 calls::close_own(&mut self.state, &mut self.entries, client)
+            }
+
+            /// Takes the steps of a plan one after the other under these rights, up to the budget, and answers how many it
+            /// took: the smaller of the budget and the plan's length. A refused step counts, and the next one is taken.
+            /// Both buffers end as after the same steps made singly [`under`](Self::under) these rights.
+            pub fn run_plan(&mut self, rights: &Rights, plan: &[StepWord], budget: u64) -> u64 {
+                calls::run_plan(&mut self.state, &mut self.entries, rights.words(), StepWord::words(plan), budget)
+            }
+
+            /// What a run of this plan would add under these rights and this budget: exactly what
+            /// [`run_plan`](Self::run_plan) with the same then adds.
+            pub fn forecast(&self, rights: &Rights, plan: &[StepWord], budget: u64) -> Forecast {
+                self.as_ref().forecast(rights, plan, budget)
             }
 
             /// The state buffer, to persist.

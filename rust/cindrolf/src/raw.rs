@@ -21,6 +21,13 @@ pub struct WindowFound {
     pub start: u64,
 }
 
+#[repr(C)]
+pub struct PlanCounts {
+    pub entries: u64,
+    pub ledgers: u64,
+    pub refusals: u64,
+}
+
 // Operations that change both buffers, each with the numbers that it takes.
 macro_rules! operations {
     ($($name:ident($($number:ident),*);)*) => {
@@ -102,6 +109,28 @@ unsafe extern "C" {
         scores: *const u16,
         scores_len: usize,
     ) -> u64;
+    pub fn cindrolf_run_plan(
+        state: *mut u64,
+        state_len: usize,
+        entries: *mut u64,
+        entries_len: usize,
+        rights: *const u64,
+        rights_len: usize,
+        plan: *const u64,
+        plan_len: usize,
+        budget: u64,
+    ) -> u64;
+    pub fn cindrolf_forecast(
+        state: *const u64,
+        state_len: usize,
+        entries: *const u64,
+        entries_len: usize,
+        rights: *const u64,
+        rights_len: usize,
+        plan: *const u64,
+        plan_len: usize,
+        budget: u64,
+    ) -> PlanCounts;
     pub fn cindrolf_well_formed(state: *const u64, state_len: usize, entries: *const u64, entries_len: usize) -> bool;
     pub fn cindrolf_advise(
         state: *const u64,

@@ -1,12 +1,12 @@
 //! The reference's examples through the crate, on the proved library.
 
 use cindrolf::{
-    CloseLast, ENTRY_WORDS, EntryNumber, Error, Finish, LedgerNumber, LedgerPlace, Log, LogMut, LogRef, MarkName,
-    Position, Progress,
+    CloseLast, ENTRY_WORDS, EntryNumber, Error, Finish, Forecast, LedgerNumber, LedgerPlace, Log, LogMut, LogRef,
+    MarkName, Position, Progress,
 };
 use cindrolf::{
     HIGHEST_SCORE, MARK_WORDS, MARKS_LIMIT, RIGHTS_WORDS, Refusal, Right, Rights, SCORES_LIMIT, STATE_WORDS, Stage,
-    calls, ledger_of, value_of,
+    Step, StepWord, calls, ledger_of, value_of,
 };
 
 fn refused<T>(refusal: Refusal) -> Result<T, Error> {
@@ -388,4 +388,95 @@ fn refused_rights() {
         assert_eq!(calls::write_scores_with(&mut state, &mut entries, &lent, 2, &[]), refused(Refusal::WrongLength));
     }
     assert!(log == before && state == before.state() && entries == before.entries());
+}
+
+/// A handover from client 0 to client 1, with steps that are refused.
+fn handover() -> Vec<StepWord> {
+    use Step::*;
+    let steps = [
+        (0, Become),
+        (0, Fetch),
+        (0, Create),
+        (0, Append),
+        (0, Write(7)),
+        (0, Fetch), // refused: another stage
+        (1, Name),
+        (1, Become),
+        (1, Fetch),
+        (1, CloseLast),
+        (0, Write(8)), // refused: fenced
+        (1, Finish),
+        (0, Abdicate), // refused, where the right is missing
+        (1, Create),
+        (1, Append),
+        (16, Write(9)), // refused: unknown
+        (1, Write(9)),
+    ];
+    let mut plan: Vec<_> = steps.map(|(client, step)| StepWord::new(client, step).unwrap()).into();
+    plan.push(StepWord(10 << 60)); // refused: no step
+    plan.extend([StepWord::new(0, CloseOwn).unwrap()]); // behind
+    plan
+}
+
+// A run is its steps made singly, up to the budget; a forecast of it says what it then adds.
+#[test]
+fn plans() {
+    let mut rights = Rights::all(2).unwrap();
+    rights.revoke(0, Right::Abdicate);
+    let plan = handover();
+    let added = [(0, 0, 0, 0), (4, 0, 1, 0), (6, 1, 1, 1), (11, 1, 1, 2), (13, 1, 1, 3), (16, 1, 2, 4), (18, 2, 2, 5)];
+    for (budget, entries, ledgers, refusals) in added.into_iter().chain([(19, 2, 2, 5), (u64::MAX, 2, 2, 5)]) {
+        let mut log = Log::fresh(2).unwrap();
+        let before = log.clone();
+        assert_eq!(log.forecast(&rights, &plan, budget), Forecast { entries, ledgers, refusals }, "{budget}");
+        assert_eq!(log, before);
+        assert_eq!(log.run_plan(&rights, &plan, budget), budget.min(19));
+        assert_eq!(log.view().entry_count(), entries);
+        assert_eq!(log.view().next_ledger(), Some(LedgerNumber(1 + ledgers)));
+        let mut singly = before;
+        let mut permitted = singly.under(&rights);
+        for word in &plan[..budget.min(19) as usize] {
+            let client = word.client();
+            let _ = match word.step() {
+                Some(Step::Name) => permitted.name(client),
+                Some(Step::Become) => permitted.become_leader(client),
+                Some(Step::Abdicate) => permitted.abdicate(client),
+                Some(Step::Fetch) => permitted.fetch(client),
+                Some(Step::CloseLast) => permitted.close_last(client).map(drop),
+                Some(Step::Finish) => permitted.finish(client).map(drop),
+                Some(Step::Create) => permitted.create(client),
+                Some(Step::Append) => permitted.append(client).map(drop),
+                Some(Step::Write(value)) => permitted.write(client, value).map(drop),
+                Some(Step::CloseOwn) => permitted.close_own(client).map(drop),
+                None => Ok(()),
+            };
+        }
+        assert_eq!(log, singly, "{budget}");
+    }
+}
+
+// Buffers that hold no log, or rights of none: every step counts, and nothing changes.
+#[test]
+fn refused_plans() {
+    let (plan, all) = (handover(), Rights::all(2).unwrap());
+    let refused = |taken| Forecast { entries: 0, ledgers: 0, refusals: taken };
+    let (mut state, mut entries) = ([1; STATE_WORDS], [2; ENTRY_WORDS]);
+    for (budget, taken) in [(0, 0), (1, 1), (18, 18), (19, 19), (20, 19), (u64::MAX, 19)] {
+        assert_eq!(LogRef::new(&state, &entries).forecast(&all, &plan, budget), refused(taken));
+        assert_eq!(LogMut::new(&mut state, &mut entries).run_plan(&all, &plan, budget), taken);
+        assert_eq!(LogMut::new(&mut [], &mut entries).run_plan(&all, &plan, budget), taken);
+        let mut log = Log::fresh(2).unwrap();
+        let strange = Rights::all(3).unwrap();
+        assert_eq!(log.as_mut().forecast(&strange, &plan, budget), refused(taken));
+        assert_eq!(log.run_plan(&strange, &plan, budget), taken);
+        assert_eq!(log, Log::fresh(2).unwrap());
+        let (mut kept, mut stored) = (log.state().to_vec(), log.entries().to_vec());
+        for length in [0, RIGHTS_WORDS - 1, RIGHTS_WORDS + 1] {
+            let (lent, words) = (vec![0; length], StepWord::words(&plan));
+            assert_eq!(calls::forecast(&kept, &stored, &lent, words, budget), refused(taken));
+            assert_eq!(calls::run_plan(&mut kept, &mut stored, &lent, words, budget), taken);
+        }
+        assert!(kept == log.state() && stored == log.entries());
+    }
+    assert!(state == [1; STATE_WORDS] && entries == [2; ENTRY_WORDS]);
 }

@@ -2,11 +2,13 @@
 
 use crate::call::{Buffers, Call, Subject};
 use crate::marks::{self, any_marks};
+use crate::plans::{any_budget, any_plan};
 use crate::rights::any_rights;
 use crate::shrink;
 use crate::sides::Sides;
 use model::histories::{any_client, with_any_input};
 use model::layout::{Client, ENTRY_WORDS, Entry, Head, Ledger, NONE, Place, STATE_WORDS, client_index};
+use model::plans::parts;
 use model::random::Random;
 use model::{Step, words};
 
@@ -14,6 +16,7 @@ use model::{Step, words};
 pub fn compare(subject: Subject, sides: &mut Sides, random: &mut Random) -> Result<(), String> {
     let mut buffers = any_buffers(random);
     buffers.marks = any_marks(random, head(&buffers).entry_count);
+    buffers.plan = any_plan(random, &buffers);
     sides.set(&buffers);
     for call in calls(random, &buffers) {
         let reading = match call {
@@ -26,6 +29,13 @@ pub fn compare(subject: Subject, sides: &mut Sides, random: &mut Random) -> Resu
             sides.set(&buffers);
         }
         if let Call::StepWith(client, step) = call {
+            buffers.rights = any_rights(random, head(&buffers).client_count, client, step);
+            sides.set_rights(&buffers.rights);
+        }
+        if let Call::Forecast(_) = call {
+            // As for the first step that the plan has. The run after it has the same rights.
+            let first = buffers.plan.iter().find_map(|&word| parts(word));
+            let (client, step) = first.unwrap_or((0, Step::Name));
             buffers.rights = any_rights(random, head(&buffers).client_count, client, step);
             sides.set_rights(&buffers.rights);
         }
@@ -63,6 +73,8 @@ fn calls(random: &mut Random, buffers: &Buffers) -> Vec<Call> {
         calls.push(any_window(random, &reading));
     }
     calls.extend(marks::calls(random, &buffers.marks));
+    let budget = any_budget(random, buffers.plan.len());
+    calls.extend([Call::Forecast(budget), Call::RunPlan(budget)]);
     calls
 }
 

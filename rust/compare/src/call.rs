@@ -1,5 +1,6 @@
 //! One call of an operation, as the library and the model take it.
 
+use model::plans::{self, Counts};
 use model::{Answer, Step, marks, words};
 use std::fmt;
 use std::hint::black_box;
@@ -14,8 +15,10 @@ pub struct Buffers {
     pub entries: Vec<u64>,
     /// The marks buffer.
     pub marks: Vec<u64>,
-    /// The rights of a step under rights.
+    /// The rights of a step under rights, or of a run.
     pub rights: Vec<u64>,
+    /// The plan of a run.
+    pub plan: Vec<u64>,
     /// The output buffer of read chain and of reading at a mark.
     pub output: Vec<u64>,
 }
@@ -23,8 +26,8 @@ pub struct Buffers {
 impl Buffers {
     /// The buffers as a call is lent them.
     pub fn lend(&mut self) -> Lent<'_> {
-        let Buffers { state, entries, marks, rights, output } = self;
-        Lent { state, entries, marks, rights, output }
+        let Buffers { state, entries, marks, rights, plan, output } = self;
+        Lent { state, entries, marks, rights, plan, output }
     }
 }
 
@@ -37,8 +40,10 @@ pub struct Lent<'a> {
     pub entries: &'a mut [u64],
     /// The marks buffer.
     pub marks: &'a mut [u64],
-    /// The rights of a step under rights.
+    /// The rights of a step under rights, or of a run.
     pub rights: &'a mut [u64],
+    /// The plan of a run.
+    pub plan: &'a mut [u64],
     /// The output buffer of read chain and of reading at a mark.
     pub output: &'a mut [u64],
 }
@@ -52,6 +57,10 @@ pub enum Call {
     Step(u64, Step),
     /// A step by a client, under the rights that are lent.
     StepWith(u64, Step),
+    /// A run of the plan under the rights that are lent, with its budget.
+    RunPlan(u64),
+    /// What such a run would add.
+    Forecast(u64),
     /// The check of both buffers.
     WellFormed,
     /// The adviser, with a client.
@@ -120,6 +129,10 @@ pub enum Outcome {
         /// Where it starts.
         start: u64,
     },
+    /// How many steps a run took.
+    Taken(u64),
+    /// What a run would add.
+    Forecast(Counts),
     /// The crate for controllers doesn't hand on what the function below it gave.
     NotHandedOn(Box<Outcome>),
 }
@@ -132,14 +145,18 @@ impl Outcome {
             | Outcome::Part { answer, .. }
             | Outcome::Count { answer, .. }
             | Outcome::Window { answer, .. } => Some(*answer),
-            Outcome::WellFormed(_) | Outcome::Advice(_) | Outcome::NotHandedOn(_) => None,
+            Outcome::WellFormed(_)
+            | Outcome::Advice(_)
+            | Outcome::Taken(_)
+            | Outcome::Forecast(_)
+            | Outcome::NotHandedOn(_) => None,
         }
     }
 
     /// Whether the call may have changed a buffer.
     pub fn changes(&self) -> bool {
-        use Outcome::{Advice, Part, WellFormed, Window};
-        let reads = matches!(self, WellFormed(_) | Advice(_) | Part { .. } | Window { .. });
+        use Outcome::{Advice, Forecast, Part, WellFormed, Window};
+        let reads = matches!(self, WellFormed(_) | Advice(_) | Part { .. } | Window { .. } | Forecast(_));
         !reads && !matches!(self.answer(), Some(Answer::Refused(_)))
     }
 }
@@ -149,11 +166,13 @@ pub type Subject = fn(Call, &mut Lent) -> Outcome;
 
 /// The model's side.
 pub fn model(call: Call, lent: &mut Lent) -> Outcome {
-    let Lent { state, entries, marks, rights, output } = lent;
+    let Lent { state, entries, marks, rights, plan, output } = lent;
     match call {
         Call::Fresh(count) => Outcome::Answer(words::fresh(state, entries, count)),
         Call::Step(client, step) => Outcome::Answer(words::step(state, entries, client, step)),
         Call::StepWith(client, step) => Outcome::Answer(words::step_with(state, entries, rights, client, step)),
+        Call::RunPlan(budget) => Outcome::Taken(plans::run(state, entries, rights, plan, budget)),
+        Call::Forecast(budget) => Outcome::Forecast(plans::forecast(state, entries, rights, plan, budget)),
         Call::WellFormed => Outcome::WellFormed(words::well_formed(state, entries)),
         Call::Advise(client) => words::advise(state, entries, client)
             .map_or_else(|number| Outcome::Answer(Answer::Refused(number)), Outcome::Advice),
@@ -193,11 +212,17 @@ fn model_part(part: Range<usize>) -> Outcome {
 /// The library's side, through the crate for controllers.
 pub fn library(call: Call, lent: &mut Lent) -> Outcome {
     use cindrolf::{MarkName, calls};
-    let Lent { state, entries, marks, rights, .. } = lent;
+    let Lent { state, entries, marks, rights, plan, .. } = lent;
     match call {
         Call::Fresh(count) => accepted(calls::fresh(state, entries, count)),
         Call::Step(client, step) => Outcome::Answer(library_step(state, entries, client, step)),
         Call::StepWith(client, step) => Outcome::Answer(library_step_with(state, entries, rights, client, step)),
+        Call::RunPlan(budget) => Outcome::Taken(calls::run_plan(state, entries, rights, plan, budget)),
+        Call::Forecast(budget) => {
+            let cindrolf::Forecast { entries, ledgers, refusals } =
+                calls::forecast(state, entries, rights, plan, budget);
+            Outcome::Forecast(Counts { entries, ledgers, refusals })
+        }
         Call::WellFormed => Outcome::WellFormed(calls::well_formed(state, entries)),
         Call::Advise(client) => library_advice(state, entries, client),
         Call::ReadLedger(ledger) => library_ledger(lent, ledger),
@@ -314,7 +339,7 @@ fn library_window(lent: &Lent, length: u64, limit: u64) -> Outcome {
 fn numbered(number: u64) -> Answer {
     match number {
         0 => Answer::Done,
-        257..=280 => Answer::Refused(number - 256),
+        257..=281 => Answer::Refused(number - 256),
         _ => Answer::Refused(u64::MAX),
     }
 }

@@ -2,12 +2,14 @@
 
 use crate::buffers::{any_call, any_window};
 use crate::call::{Buffers, Call, Outcome, Subject};
+use crate::plans::{any_budget, sensible_plan};
 use crate::rights::any_rights;
-use crate::shrink::{shorten, with_fewer_scores};
+use crate::shrink::{shorten, takes_plan, with_fewer_scores};
 use crate::sides::Sides;
 use model::histories::{Profile, any_client};
 use model::layout::{ENTRY_WORDS, STATE_WORDS};
 use model::marks::{LIMIT, MARK_WORDS};
+use model::plans::{Counts, parts, within};
 use model::random::Random;
 use model::rights::{self, RIGHTS_WORDS};
 use model::source::{Source, Taken};
@@ -20,11 +22,15 @@ const LONGEST: u64 = 6_000;
 /// A history ends after so many steps for which the log had no ledger number or no room left.
 const MOST_AT_LIMIT: u64 = 100;
 
-/// A call, and the rights that are lent with it, where it is a step under rights.
+/// The most steps of a plan in a history.
+const LONGEST_PLAN: u64 = 20;
+
+/// A call, and what is lent with it: rights, where it is a step under rights or a run, and the plan of a run.
 #[derive(Clone)]
 struct Turn {
     call: Call,
     rights: Vec<u64>,
+    plan: Vec<u64>,
 }
 
 /// A fresh log and what comes after it.
@@ -49,32 +55,51 @@ pub fn compare(subject: Subject, sides: &mut Sides, random: &mut Random) -> Resu
     let length = if random.chance(20) { LONGEST } else { random.between(1, 600) };
     let mut run = Run::start(sides, history.client_count).map_err(|text| report(subject, &history, text))?;
     for _ in 0..length {
-        let call = match random.below(50) {
-            0 => Call::WellFormed,
-            1 => Call::ReadLedger(random.below(run.source.md_next_lid + 1)),
-            2 => Call::ReadChain,
-            3 => any_window(random, &run.source.chain()),
-            4 | 5 => Call::Advise(any_client(random, history.client_count)),
-            6..=9 => any_mark_call(random),
-            _ => {
-                let (client, step) = profile.next(random, &run.source);
-                any_call(random)(client, step)
+        for turn in next_turns(random, &profile, &run.source) {
+            history.turns.push(turn.clone());
+            if let Err(text) = run.take(&turn) {
+                return Err(report(subject, &history, text));
             }
-        };
-        let rights = match call {
-            Call::StepWith(client, step) => any_rights(random, history.client_count, client, step),
-            _ => vec![],
-        };
-        let turn = Turn { call, rights };
-        history.turns.push(turn.clone());
-        if let Err(text) = run.take(&turn) {
-            return Err(report(subject, &history, text));
         }
         if run.at_limit > MOST_AT_LIMIT {
             break;
         }
     }
     Ok(())
+}
+
+/// The next call of a history that has come to this state; before a run its forecast.
+fn next_turns(random: &mut Random, profile: &Profile, source: &Source) -> Vec<Turn> {
+    let client_count = source.c_state.len() as u64;
+    let call = match random.below(50) {
+        0 => Call::WellFormed,
+        1 => Call::ReadLedger(random.below(source.md_next_lid + 1)),
+        2 => Call::ReadChain,
+        3 => any_window(random, &source.chain()),
+        4 | 5 => Call::Advise(any_client(random, client_count)),
+        6..=9 => any_mark_call(random),
+        10 if random.chance(50) => return any_run(random, profile, source),
+        _ => {
+            let (client, step) = profile.next(random, source);
+            any_call(random)(client, step)
+        }
+    };
+    let rights = match call {
+        Call::StepWith(client, step) => any_rights(random, client_count, client, step),
+        _ => vec![],
+    };
+    vec![Turn { call, rights, plan: vec![] }]
+}
+
+/// A run as the history may go on, after its forecast.
+fn any_run(random: &mut Random, profile: &Profile, source: &Source) -> Vec<Turn> {
+    let (client, step) = profile.next(random, source);
+    let rights = any_rights(random, source.c_state.len() as u64, client, step);
+    let length = random.below(LONGEST_PLAN + 1) as usize;
+    let plan = sensible_plan(random, profile, source, &rights, length);
+    let budget = any_budget(random, length);
+    let turn = |call| Turn { call, rights: rights.clone(), plan: plan.clone() };
+    vec![turn(Call::Forecast(budget)), turn(Call::RunPlan(budget))]
 }
 
 /// A call by one of so few names that most are kept sooner or later, or by name 0.
@@ -91,7 +116,7 @@ impl<'a> Run<'a> {
     fn start(sides: &'a mut Sides, client_count: u64) -> Result<Self, String> {
         let output = (0..ENTRY_WORDS as u64).map(|index| !index).collect();
         let (state, entries) = (vec![u64::MAX; STATE_WORDS], vec![5; ENTRY_WORDS]);
-        sides.set(&Buffers { state, entries, marks: vec![0; MARK_WORDS], rights: vec![], output });
+        sides.set(&Buffers { state, entries, marks: vec![0; MARK_WORDS], output, ..Buffers::default() });
         sides.call(Call::Fresh(client_count)).map_err(|difference| difference.to_string())?;
         Ok(Run { sides, source: Source::init(client_count), marks: vec![], at_limit: 0 })
     }
@@ -99,11 +124,20 @@ impl<'a> Run<'a> {
     fn take(&mut self, turn: &Turn) -> Result<(), String> {
         let call = turn.call;
         self.sides.set_rights(&turn.rights);
+        self.sides.set_plan(&turn.plan);
         let outcome = self.sides.call(call).map_err(|difference| difference.to_string())?;
         let agrees = match (call, &outcome) {
             (Call::Step(client, step), Outcome::Answer(answer)) => self.source_agrees(true, client, step, *answer),
             (Call::StepWith(client, step), Outcome::Answer(answer)) => {
                 self.source_agrees_under(&turn.rights, client, step, *answer)
+            }
+            (Call::Forecast(budget), Outcome::Forecast(counts)) => {
+                *counts == run_source(&mut self.source.clone(), &turn.rights, within(&turn.plan, budget)).0
+            }
+            (Call::RunPlan(budget), Outcome::Taken(taken)) => {
+                let plan = within(&turn.plan, budget);
+                self.at_limit += run_source(&mut self.source, &turn.rights, plan).1;
+                *taken == plan.len() as u64 && self.is_source()
             }
             (Call::Advise(client), Outcome::Advice(step)) => {
                 client < self.source.c_state.len() as u64 && *step == self.source.advise(client)
@@ -195,9 +229,34 @@ impl<'a> Run<'a> {
                 return matches!(answer, Answer::Refused(number) if self.source.forbids_with(has_right, client, number));
             }
         };
-        let (state, entries) = self.source.buffers();
-        answers && state == self.sides.buffers().state && entries == self.sides.buffers().entries
+        answers && self.is_source()
     }
+
+    fn is_source(&self) -> bool {
+        let (state, entries) = self.source.buffers();
+        state == self.sides.buffers().state && entries == self.sides.buffers().entries
+    }
+}
+
+/// A run in LedgerChaining's terms: what it adds, and how many of its steps found the log at a limit. It knows of no buffers, so under rights
+/// that are malformed every step is refused.
+fn run_source(source: &mut Source, lent: &[u64], plan: &[u64]) -> (Counts, u64) {
+    let count = source.c_state.len() as u64;
+    let formed = lent.len() == RIGHTS_WORDS && rights::well_formed(lent, count);
+    let (before, mut refusals, mut at_limit) = ((source.next_entry_id, source.md_next_lid), 0, 0);
+    for &word in plan {
+        let taken = match parts(word) {
+            Some((client, step)) if formed => {
+                let has_right = client < count && rights::allows(lent, client, step);
+                source.step_with(has_right, client, step)
+            }
+            _ => Taken::Forbidden,
+        };
+        refusals += u64::from(!matches!(taken, Taken::Accepted(_)));
+        at_limit += u64::from(matches!(taken, Taken::Limit(10 | 13)));
+    }
+    let (entries, ledgers) = (source.next_entry_id - before.0, source.md_next_lid - before.1);
+    (Counts { entries, ledgers, refusals }, at_limit)
 }
 
 /// The first start of a stretch of a reading whose values come to more than the limit.
@@ -217,6 +276,12 @@ fn failure(subject: Subject, client_count: u64, turns: &[Turn]) -> Option<String
     turns.iter().find_map(|turn| run.take(turn).err())
 }
 
+/// A plan in a line.
+fn describe_plan(plan: &[u64]) -> String {
+    let words: Vec<String> = plan.iter().map(|word| format!("{word:#018x}")).collect();
+    format!("the plan [{}]", words.join(", "))
+}
+
 /// Rights in a line: how many words, and those that aren't zero.
 fn describe(rights: &[u64]) -> String {
     let set = rights.iter().enumerate().filter(|(_, word)| **word != 0);
@@ -226,7 +291,7 @@ fn describe(rights: &[u64]) -> String {
 
 /// The turn with plainer rights that still fails: with all of them, or else with no more words than it takes.
 fn with_plainer_rights(mut turn: Turn, all: Vec<u64>, fails: impl Fn(Turn) -> bool) -> Turn {
-    let with_all = Turn { rights: all, ..turn };
+    let with_all = Turn { rights: all, ..turn.clone() };
     if !turn.rights.is_empty() && fails(with_all.clone()) {
         return with_all;
     }
@@ -244,18 +309,21 @@ fn report(subject: Subject, history: &History, text: String) -> String {
     let mut turns = shorten(&history.turns, fails);
     for index in 0..turns.len() {
         let fails_with = |turn: Turn| fails(&[&turns[..index], &[turn], &turns[index + 1..]].concat());
-        let rights = &turns[index].rights;
-        let call = with_fewer_scores(turns[index].call, |call| fails_with(Turn { call, rights: rights.clone() }));
-        let turn = Turn { call, rights: rights.clone() };
+        let mut turn = turns[index].clone();
+        turn.call = with_fewer_scores(turn.call, |call| fails_with(Turn { call, ..turn.clone() }));
+        turn.plan = shorten(&turn.plan, |plan| fails_with(Turn { plan: plan.to_vec(), ..turn.clone() }));
         turns[index] = with_plainer_rights(turn, rights::all(history.client_count), fails_with);
     }
     let fewest = (1..history.client_count).find(|&count| failure(subject, count, &turns).is_some());
     let client_count = fewest.unwrap_or(history.client_count);
     let text = failure(subject, client_count, &turns).unwrap_or(text);
     let mut report = format!("{text}The shortest history found that shows it:\n  Fresh({client_count})\n");
-    for Turn { call, rights } in turns {
+    for Turn { call, rights, plan } in turns {
         let _ = match call {
             Call::StepWith(..) => writeln!(report, "  {call} under {}", describe(&rights)),
+            call if takes_plan(call) => {
+                writeln!(report, "  {call} of {} under {}", describe_plan(&plan), describe(&rights))
+            }
             _ => writeln!(report, "  {call}"),
         };
     }

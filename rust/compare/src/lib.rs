@@ -6,6 +6,7 @@ pub mod call;
 pub mod histories;
 pub mod logs;
 pub mod marks;
+pub mod plans;
 pub mod rights;
 pub mod shrink;
 pub mod sides;

@@ -15,10 +15,12 @@ pub struct Named {
     pub step: Call,
 }
 
-fn fresh(client_count: u64) -> Buffers {
+/// A fresh log of so many clients, with no mark and with all rights.
+pub fn fresh(client_count: u64) -> Buffers {
     let (mut state, mut entries) = (vec![0; STATE_WORDS], vec![0; ENTRY_WORDS]);
     assert_eq!(words::fresh(&mut state, &mut entries, client_count), Answer::Done);
-    Buffers { state, entries, marks: vec![0; MARK_WORDS], rights: rights::all(client_count), output: vec![] }
+    let (marks, rights) = (vec![0; MARK_WORDS], rights::all(client_count));
+    Buffers { state, entries, marks, rights, ..Buffers::default() }
 }
 
 /// The log with so many marks, whose names are 1, 2 and so on, spread over its entries.

@@ -52,6 +52,11 @@ fn with_scores(call: Call, scores: &'static [u16]) -> Call {
     }
 }
 
+/// Whether a call takes the plan that is lent.
+pub fn takes_plan(call: Call) -> bool {
+    matches!(call, Call::RunPlan(_) | Call::Forecast(_))
+}
+
 /// What a call on these buffers shows, if the two sides part.
 pub fn difference(subject: Subject, call: Call, buffers: &Buffers) -> Option<Box<Difference>> {
     let mut sides = Sides::new(subject);
@@ -59,10 +64,13 @@ pub fn difference(subject: Subject, call: Call, buffers: &Buffers) -> Option<Box
     sides.call(call).err()
 }
 
-/// Smaller buffers on which the call still fails: fewer marks, entries, places, ledgers and clients, then more zero words.
+/// Smaller buffers on which the call still fails: a shorter plan, fewer marks, entries, places, ledgers and clients, then more zero words.
 pub fn simplify(subject: Subject, call: Call, buffers: &Buffers) -> Buffers {
     let mut best = buffers.clone();
     let fails = |candidate: &Buffers| difference(subject, call, candidate).is_some();
+    if takes_plan(call) {
+        best.plan = shorten(&buffers.plan, |plan| fails(&Buffers { plan: plan.to_vec(), ..buffers.clone() }));
+    }
     while let Some(smaller) = cuts(&best).into_iter().find(|cut| *cut != best && fails(cut)) {
         best = smaller;
     }
@@ -136,6 +144,7 @@ pub fn describe(buffers: &Buffers) -> String {
         ("entries", &buffers.entries),
         ("marks", &buffers.marks),
         ("rights", &buffers.rights),
+        ("plan", &buffers.plan),
     ];
     for (name, words) in named {
         let set: Vec<_> = words.iter().enumerate().filter(|(_, word)| **word != 0).collect();

@@ -57,6 +57,7 @@ pub struct Sides {
     entries: Guarded,
     marks: Guarded,
     rights: Guarded,
+    plan: Guarded,
     output: Guarded,
     model: Buffers,
     /// What was compared so far.
@@ -80,9 +81,9 @@ pub struct Difference {
 impl Sides {
     /// Both sides on empty buffers.
     pub fn new(subject: Subject) -> Self {
-        let (state, entries, marks, rights, output) = Default::default();
+        let (state, entries, marks, rights, plan, output) = Default::default();
         let (model, tally) = Default::default();
-        let mut sides = Sides { subject, state, entries, marks, rights, output, model, tally };
+        let mut sides = Sides { subject, state, entries, marks, rights, plan, output, model, tally };
         sides.set(&Buffers::default());
         sides
     }
@@ -93,17 +94,19 @@ impl Sides {
         self.entries.set(&buffers.entries);
         self.marks.set(&buffers.marks);
         self.rights.set(&buffers.rights);
+        self.plan.set(&buffers.plan);
         self.output.set(&buffers.output);
         self.model.clone_from(buffers);
     }
 
     fn lend(&mut self) -> Lent<'_> {
-        let Sides { state, entries, marks, rights, output, .. } = self;
+        let Sides { state, entries, marks, rights, plan, output, .. } = self;
         Lent {
             state: state.middle(),
             entries: entries.middle(),
             marks: marks.middle(),
             rights: rights.middle(),
+            plan: plan.middle(),
             output: output.middle(),
         }
     }
@@ -113,6 +116,13 @@ impl Sides {
         self.rights.set(rights);
         self.model.rights.clear();
         self.model.rights.extend(rights);
+    }
+
+    /// Gives both sides this plan, and leaves the other buffers as they are.
+    pub fn set_plan(&mut self, plan: &[u64]) {
+        self.plan.set(plan);
+        self.model.plan.clear();
+        self.model.plan.extend(plan);
     }
 
     /// Changes both sides' buffers in the same way.
@@ -130,10 +140,11 @@ impl Sides {
     pub fn call(&mut self, call: Call) -> Result<Outcome, Box<Difference>> {
         let subject = (self.subject)(call, &mut self.lend());
         let model = model(call, &mut self.model.lend());
-        let Buffers { state, entries, marks, rights, output } = &self.model;
+        let Buffers { state, entries, marks, rights, plan, output } = &self.model;
         let log_is = self.state.is(state) && self.entries.is(entries);
-        let others_are = self.marks.is(marks) && self.rights.is(rights) && self.output.is(output);
-        if subject == model && log_is && others_are {
+        let read_are = self.rights.is(rights) && self.plan.is(plan);
+        let others_are = self.marks.is(marks) && self.output.is(output);
+        if subject == model && log_is && read_are && others_are {
             self.tally.count(call, &model);
             return Ok(model);
         }
@@ -146,6 +157,7 @@ impl Sides {
             ("entries", &self.entries, &self.model.entries),
             ("marks", &self.marks, &self.model.marks),
             ("rights", &self.rights, &self.model.rights),
+            ("plan", &self.plan, &self.model.plan),
             ("output", &self.output, &self.model.output),
         ];
         let mut words = vec![];
@@ -176,8 +188,8 @@ mod tests {
     // No safe subject reaches the words around its buffers, so they are changed for it here.
     #[test]
     fn finds_changes_around_the_buffers() {
-        let (state, marks, rights, output) = (vec![1; 3], vec![4; 2], vec![6; 16], vec![2; 5]);
-        let buffers = Buffers { state, entries: vec![], marks, rights, output };
+        let (state, marks, rights) = (vec![1; 3], vec![4; 2], vec![6; 16]);
+        let buffers = Buffers { state, entries: vec![], marks, rights, plan: vec![8; 4], output: vec![2; 5] };
         let changed = |change: fn(&mut Sides)| {
             let mut sides = Sides::new(model);
             sides.set(&buffers);
@@ -192,6 +204,8 @@ mod tests {
         assert_eq!(changed(|sides| sides.marks.0[AROUND] = 0), [("marks", 0)]);
         assert_eq!(changed(|sides| sides.rights.0[AROUND + 16] = 0), [("rights", 16)]);
         assert_eq!(changed(|sides| sides.rights.0[AROUND + 15] = 0), [("rights", 15)]);
+        assert_eq!(changed(|sides| sides.plan.0[AROUND + 4] = 0), [("plan", 4)]);
+        assert_eq!(changed(|sides| sides.plan.0[AROUND] = 0), [("plan", 0)]);
         assert_eq!(changed(|sides| *sides.output.0.last_mut().unwrap() = 0), [("output", 21)]);
         assert_eq!(changed(|sides| sides.output.0[AROUND] = 0), [("output", 0)]);
     }

@@ -5,23 +5,26 @@ use crate::call::{Buffers, Call, Lent, Outcome, Subject};
 use crate::logs::Named;
 use crate::shrink;
 use crate::sides::Sides;
-use model::Step;
 use model::layout::ENTRY_WORDS;
 use model::marks::{LIMIT, MARK_WORDS};
 use model::rights::RIGHTS_WORDS;
+use model::{Step, plans};
 use std::ops::Range;
 
 /// Compares every operation on the undamaged log.
 pub fn undamaged(subject: Subject, sides: &mut Sides, log: &Named) -> Result<(), String> {
     let mut buffers = log.buffers.clone();
     buffers.output = vec![3; ENTRY_WORDS];
+    buffers.plan = every_step();
+    let budgets = [0, 1, buffers.plan.len() as u64, u64::MAX];
+    let runs = budgets.into_iter().flat_map(|budget| [Call::Forecast(budget), Call::RunPlan(budget)]);
     let without = (0..17).flat_map(|client| Step::ALL.map(|step| Call::Step(client, step)));
     let steps = without.chain((0..17).flat_map(|client| Step::ALL.map(|step| Call::StepWith(client, step))));
     let windows = [(0, 0), (1, 0), (1, u64::MAX), (256, 0), (256, 1 << 40), (257, 0), (u64::MAX, 0)];
     let windows = windows.map(|(length, limit)| Call::FirstWindow(length, limit));
     let advice = (0..17).map(Call::Advise);
     let readers = [Call::WellFormed, Call::ReadChain, Call::ReadLedger(1), Call::ReadLedger(255)];
-    let others = readers.into_iter().chain(windows).chain(advice).chain([Call::Fresh(4)]).chain(ON_MARKS);
+    let others = readers.into_iter().chain(windows).chain(advice).chain([Call::Fresh(4)]).chain(ON_MARKS).chain(runs);
     for call in steps.chain(others) {
         sides.set(&buffers);
         match sides.call(call) {
@@ -31,6 +34,12 @@ pub fn undamaged(subject: Subject, sides: &mut Sides, log: &Named) -> Result<(),
         }
     }
     Ok(())
+}
+
+/// A plan with each step by each of 17 clients, in turn, and with each number that is no step.
+fn every_step() -> Vec<u64> {
+    let steps = (0..17).flat_map(|client| Step::ALL.map(|step| plans::word(client, step)));
+    steps.flatten().chain((10..16).map(|number| number << 60)).collect()
 }
 
 /// Compares the check and the log's step on the log with each of these bits changed, one at a time. Bit 64 × i + j is

@@ -1,12 +1,13 @@
 //! How many calls of each operation were compared, and how often each answer was met.
 
 use crate::call::{Call, Outcome};
+use model::plans;
 use model::{Answer, Step};
 use std::fmt;
 
-/// The operations, in the reference's order, each with the answers that it can give: 1 to 24 are refusals. None gives 14. A step
-/// counts the same without rights and with them, and gives 24 only with them.
-const OPERATIONS: [(&str, &[usize]); 20] = [
+/// The operations, in the reference's order, each with the answers that it can give: 1 to 25 are refusals. None gives 14. A step
+/// counts the same without rights and with them, and gives 24 only with them. A run gives no refusal, and so none gives 25.
+const OPERATIONS: [(&str, &[usize]); 22] = [
     ("fresh", &[DONE, 1, 17]),
     ("name", &[DONE, 1, 2, 3, 4, 24]),
     ("become", &[DONE, 1, 2, 3, 5, 6, 24]),
@@ -19,6 +20,8 @@ const OPERATIONS: [(&str, &[usize]); 20] = [
     ("write", &[ENTRY, 1, 2, 3, 7, 8, 9, 11, 12, 13, 24]),
     ("write scores", &[ENTRY, 1, 2, 3, 7, 8, 9, 12, 13, 18, 19, 24]),
     ("close own", &[DONE, BEHIND, 1, 2, 3, 7, 8, 9, 24]),
+    ("run plan", &[WHOLE, CUT]),
+    ("forecast", &[ADDS, REFUSALS, NONE]),
     ("well formed", &[YES, NO]),
     ("advise", &[BECOME, ABDICATE, FETCH, CLOSE_LAST, FINISH, CREATE, APPEND, WRITE, CLOSE_OWN, NONE, 1, 2, 3]),
     ("read ledger", &[DONE, 1, 2, 15]),
@@ -29,7 +32,7 @@ const OPERATIONS: [(&str, &[usize]); 20] = [
     ("read mark", &[DONE, 1, 2, 16, 23]),
 ];
 
-const DONE: usize = 25;
+const DONE: usize = 26;
 const WAS_CLOSED: usize = DONE + 1;
 const BEHIND: usize = DONE + 2;
 const ENTRY: usize = DONE + 3;
@@ -46,7 +49,11 @@ const CREATE: usize = DONE + 13;
 const APPEND: usize = DONE + 14;
 const WRITE: usize = DONE + 15;
 const CLOSE_OWN: usize = DONE + 16;
-const NAMES: [&str; 17] = [
+const WHOLE: usize = DONE + 17;
+const CUT: usize = DONE + 18;
+const ADDS: usize = DONE + 19;
+const REFUSALS: usize = DONE + 20;
+const NAMES: [&str; 21] = [
     "done",
     "was closed",
     "behind",
@@ -64,6 +71,10 @@ const NAMES: [&str; 17] = [
     "append",
     "write",
     "close own",
+    "within the budget",
+    "up to the budget",
+    "adds",
+    "only refusals",
 ];
 
 /// The counts of one operation, by answer.
@@ -84,7 +95,7 @@ impl Default for Tally {
 impl Tally {
     /// Counts a compared call.
     pub fn count(&mut self, call: Call, outcome: &Outcome) {
-        self.0[operation(call)][column(outcome)] += 1;
+        self.0[operation(call)][column(call, outcome)] += 1;
     }
 
     /// How many calls were compared.
@@ -119,18 +130,20 @@ fn operation(call: Call) -> usize {
             Step::WriteScores(_) => 10,
             Step::CloseOwn => 11,
         },
-        Call::WellFormed => 12,
-        Call::Advise(_) => 13,
-        Call::ReadLedger(_) => 14,
-        Call::ReadChain => 15,
-        Call::FirstWindow(..) => 16,
-        Call::SetMark(_) => 17,
-        Call::DropMark(_) => 18,
-        Call::ReadMark(_) => 19,
+        Call::RunPlan(_) => 12,
+        Call::Forecast(_) => 13,
+        Call::WellFormed => 14,
+        Call::Advise(_) => 15,
+        Call::ReadLedger(_) => 16,
+        Call::ReadChain => 17,
+        Call::FirstWindow(..) => 18,
+        Call::SetMark(_) => 19,
+        Call::DropMark(_) => 20,
+        Call::ReadMark(_) => 21,
     }
 }
 
-fn column(outcome: &Outcome) -> usize {
+fn column(call: Call, outcome: &Outcome) -> usize {
     match (outcome, outcome.answer()) {
         (_, Some(Answer::Refused(number))) => number as usize,
         (Outcome::Window { found, .. }, Some(Answer::Done)) => [NONE, FOUND][(*found != 0) as usize],
@@ -139,6 +152,10 @@ fn column(outcome: &Outcome) -> usize {
         (_, Some(Answer::Behind)) => BEHIND,
         (_, Some(Answer::Entry { .. })) => ENTRY,
         (Outcome::WellFormed(true), None) => YES,
+        (Outcome::Taken(taken), None) => [WHOLE, CUT][(call == Call::RunPlan(*taken)) as usize],
+        (Outcome::Forecast(plans::Counts { entries: 0, ledgers: 0, refusals: 0 }), None) => NONE,
+        (Outcome::Forecast(plans::Counts { entries: 0, ledgers: 0, .. }), None) => REFUSALS,
+        (Outcome::Forecast(_), None) => ADDS,
         (Outcome::Advice(step), None) => step.map_or(NONE, advised),
         (_, None) => NO,
     }

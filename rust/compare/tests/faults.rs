@@ -5,7 +5,7 @@ use compare::sides::Sides;
 use compare::{buffers, histories, logs, sweep};
 use model::layout::{Client, Entry, Head, Ledger, client_index, ledger_index, place_index};
 use model::random::Random;
-use model::{Answer, Step, rights, words};
+use model::{Answer, Step, plans, rights, words};
 
 /// The first report, within this many tries.
 fn first(
@@ -44,6 +44,7 @@ fn copies(lent: &Lent) -> Buffers {
         entries: lent.entries.to_vec(),
         marks: lent.marks.to_vec(),
         rights: lent.rights.to_vec(),
+        plan: lent.plan.to_vec(),
         output: lent.output.to_vec(),
     }
 }
@@ -424,6 +425,175 @@ fn overlooks_a_right_beyond_the_count(call: Call, lent: &mut Lent) -> Outcome {
     }
 }
 
+/// The answers of a run, with each of its words, without a change of the buffers.
+fn planned_answers(lent: &Lent, budget: u64) -> Vec<(u64, Answer)> {
+    let mut copies = copies(lent);
+    let Buffers { state, entries, rights, .. } = &mut copies;
+    plans::within(lent.plan, budget).iter().map(|&word| (word, plans::take(state, entries, rights, word))).collect()
+}
+
+/// A forecast that is off by what these answers come to, by one for each that is so.
+fn miscounts(call: Call, lent: &mut Lent, add: impl Fn(&mut plans::Counts, u64, Answer)) -> Outcome {
+    match (call, call::model(call, lent)) {
+        (Call::Forecast(budget), Outcome::Forecast(mut counts)) => {
+            planned_answers(lent, budget).into_iter().for_each(|(word, answer)| add(&mut counts, word, answer));
+            Outcome::Forecast(counts)
+        }
+        (_, outcome) => outcome,
+    }
+}
+
+// Steps that are refused are left out of the number that a run reports.
+fn refused_steps_do_not_count(call: Call, lent: &mut Lent) -> Outcome {
+    let Call::RunPlan(budget) = call else { return call::model(call, lent) };
+    let answers = planned_answers(lent, budget);
+    call::model(call, lent);
+    Outcome::Taken(answers.iter().filter(|(_, answer)| !matches!(answer, Answer::Refused(_))).count() as u64)
+}
+
+// A run on buffers that are no log ends before its first step.
+fn reports_none_on_no_log(call: Call, lent: &mut Lent) -> Outcome {
+    match (call, call::model(call, lent)) {
+        (Call::RunPlan(_), _) if !words::well_formed(lent.state, lent.entries) => Outcome::Taken(0),
+        (_, outcome) => outcome,
+    }
+}
+
+// A run stops behind its first refusal, and reports all the same.
+fn stops_at_a_refusal(call: Call, lent: &mut Lent) -> Outcome {
+    let Call::RunPlan(budget) = call else { return call::model(call, lent) };
+    let answers = planned_answers(lent, budget);
+    let refused = answers.iter().position(|(_, answer)| matches!(answer, Answer::Refused(_)));
+    call::model(Call::RunPlan(refused.map_or(budget, |place| place as u64)), lent);
+    Outcome::Taken(answers.len() as u64)
+}
+
+// A word that names no step is passed over.
+fn unknown_steps_are_no_refusals(call: Call, lent: &mut Lent) -> Outcome {
+    miscounts(call, lent, |counts, word, _| counts.refusals -= u64::from(plans::parts(word).is_none()))
+}
+
+fn counts_behind_as_a_refusal(call: Call, lent: &mut Lent) -> Outcome {
+    miscounts(call, lent, |counts, _, answer| counts.refusals += u64::from(answer == Answer::Behind))
+}
+
+fn counts_was_closed_as_a_refusal(call: Call, lent: &mut Lent) -> Outcome {
+    miscounts(call, lent, |counts, _, answer| counts.refusals += u64::from(answer == Answer::WasClosed))
+}
+
+fn counts_done_appends(call: Call, lent: &mut Lent) -> Outcome {
+    miscounts(call, lent, |counts, word, answer| {
+        counts.ledgers += u64::from(answer == Answer::Done && word >> 60 == 7);
+    })
+}
+
+// The model on another plan, which is put back.
+fn with_plan(call: Call, lent: &mut Lent, word: impl Fn(u64) -> u64) -> Outcome {
+    let plan = lent.plan.to_vec();
+    if matches!(call, Call::RunPlan(_) | Call::Forecast(_)) {
+        lent.plan.iter_mut().for_each(|planned| *planned = word(*planned));
+    }
+    let outcome = call::model(call, lent);
+    lent.plan.copy_from_slice(&plan);
+    outcome
+}
+
+// Finish and create are numbered in the other order.
+fn numbers_create_before_finish(call: Call, lent: &mut Lent) -> Outcome {
+    with_plan(call, lent, |word| match word >> 60 {
+        5 | 6 => word ^ (3 << 60),
+        _ => word,
+    })
+}
+
+// The order without finish, as it was before there was one: what comes behind it is numbered one less.
+fn numbers_without_finish(call: Call, lent: &mut Lent) -> Outcome {
+    with_plan(call, lent, |word| match word >> 60 {
+        5..=8 => word + (1 << 60),
+        9 => word | (15 << 60),
+        _ => word,
+    })
+}
+
+// Of a client its lowest four bits are taken, so that 16 is client 0.
+fn cuts_the_client(call: Call, lent: &mut Lent) -> Outcome {
+    with_plan(call, lent, |word| word & !(0xF0 << 52))
+}
+
+// A value is taken for a mistake in all steps but a write.
+fn refuses_a_value(call: Call, lent: &mut Lent) -> Outcome {
+    with_plan(call, lent, |word| if word >> 60 != 8 && word << 12 != 0 { u64::MAX } else { word })
+}
+
+// The forecast takes the run.
+fn forecast_changes_the_log(call: Call, lent: &mut Lent) -> Outcome {
+    let outcome = call::model(call, lent);
+    if let Call::Forecast(budget) = call {
+        call::model(Call::RunPlan(budget), lent);
+    }
+    outcome
+}
+
+// The forecast is of the whole plan, whatever the budget.
+fn forecasts_the_whole_plan(call: Call, lent: &mut Lent) -> Outcome {
+    match call {
+        Call::Forecast(_) => call::model(Call::Forecast(u64::MAX), lent),
+        call => call::model(call, lent),
+    }
+}
+
+#[test]
+fn finds_wrong_plans() {
+    for compare in [histories::compare, buffers::compare] {
+        let report = first(compare, refused_steps_do_not_count, 300).expect("the fault is found");
+        assert!(report.contains("gives Taken(0), the model Taken(1)"), "{report}");
+        let report = first(compare, stops_at_a_refusal, 300).expect("the fault is found");
+        assert!(report.contains("RunPlan(") && report.contains(" word "), "{report}");
+        for fault in [numbers_create_before_finish, numbers_without_finish, cuts_the_client, refuses_a_value] {
+            let report = first(compare, fault, 500).expect("the fault is found");
+            assert!(report.contains("Forecast(") || report.contains("RunPlan("), "{report}");
+        }
+        let report = first(compare, forecast_changes_the_log, 300).expect("the fault is found");
+        assert!(report.contains("Forecast(") && report.contains("  state word "), "{report}");
+    }
+}
+
+#[test]
+fn finds_wrong_forecasts() {
+    for compare in [histories::compare, buffers::compare] {
+        // What the two sides count, the subject's first.
+        let counted = |subject: Subject, count: &str| {
+            let report = first(compare, subject, 1000).expect("the fault is found");
+            let after = report.split(count).skip(1).map(|rest| rest.split([',', ' ']).next().unwrap_or(""));
+            after.take(2).map(|number| number.parse().expect("a number")).collect::<Vec<u64>>()
+        };
+        assert_eq!(counted(unknown_steps_are_no_refusals, "refusals: "), [0, 1]);
+        assert_eq!(counted(counts_behind_as_a_refusal, "refusals: "), [1, 0]);
+        assert_eq!(counted(counts_was_closed_as_a_refusal, "refusals: "), [1, 0]);
+        let ledgers = counted(counts_done_appends, "ledgers: ");
+        assert_eq!(ledgers[0], ledgers[1] + 1);
+        let report = first(compare, forecasts_the_whole_plan, 300).expect("the fault is found");
+        assert!(report.starts_with("Forecast("), "{report}");
+    }
+}
+
+// A history's log is well formed, so this shows only on other buffers.
+#[test]
+fn finds_a_run_that_ends_early() {
+    assert_eq!(first(histories::compare, reports_none_on_no_log, 100), None);
+    let report = first(buffers::compare, reports_none_on_no_log, 300).expect("the fault is found");
+    assert!(report.contains("gives Taken(0), the model Taken(1)"), "{report}");
+    assert!(report.contains("plan: 1 words"), "{report}");
+}
+
+// One step shows that a run stops too early: it is behind one that is refused.
+#[test]
+fn makes_a_plan_short() {
+    let report = first(histories::compare, stops_at_a_refusal, 300).expect("the fault is found");
+    let plan = report.split("the plan [").last().and_then(|rest| rest.split(']').next()).expect("a plan");
+    assert_eq!(plan.split(", ").count(), 2, "{report}");
+}
+
 #[test]
 fn finds_wrong_rights() {
     for compare in [histories::compare, buffers::compare] {
@@ -485,7 +655,7 @@ fn finds_wrong_marks() {
 fn finds_a_reading_from_the_chain() {
     assert_eq!(first(histories::compare, reads_the_chain, 100), None);
     let report = first(buffers::compare, reads_the_chain, 1000).expect("the fault is found");
-    assert!(report.contains("output word 0"), "{report}");
+    assert!(report.contains("  output word "), "{report}");
 }
 
 #[test]

@@ -1,0 +1,172 @@
+//! Steps as words, which a plan is made of, and what a run of it adds.
+
+use crate::{Error, MAX_VALUE, Refusal, value_of};
+
+/// A step that a plan can have. A write of scores is none of them.
+#[derive(Clone, Copy, Debug, PartialEq, Eq, Hash)]
+pub enum Step {
+    /// The client becomes the named leader.
+    Name,
+    /// The client starts to lead.
+    Become,
+    /// The client stops leading.
+    Abdicate,
+    /// The client fetches the list and its last ledger.
+    Fetch,
+    /// The client fences the last ledger.
+    CloseLast,
+    /// The client closes the ledger that is fenced.
+    Finish,
+    /// The client creates a ledger.
+    Create,
+    /// The client appends its ledger to the list.
+    Append,
+    /// The client writes this value.
+    Write(u64),
+    /// The client closes its own ledger.
+    CloseOwn,
+}
+
+impl Step {
+    /// Its place in the reference's order of steps, from 0.
+    const fn number(self) -> u64 {
+        match self {
+            Step::Name => 0,
+            Step::Become => 1,
+            Step::Abdicate => 2,
+            Step::Fetch => 3,
+            Step::CloseLast => 4,
+            Step::Finish => 5,
+            Step::Create => 6,
+            Step::Append => 7,
+            Step::Write(_) => 8,
+            Step::CloseOwn => 9,
+        }
+    }
+}
+
+/// A step by a client, as a word of a plan: the step's number in the 4 most significant bits, the client in the 8 below,
+/// and a value in 52, which counts only for a write.
+///
+/// ```
+/// use cindrolf::{Error, Refusal, Step, StepWord};
+///
+/// let write = StepWord::new(3, Step::Write(9))?;
+/// assert_eq!(write, StepWord(0x8030_0000_0000_0009));
+/// assert_eq!((write.client(), write.step()), (3, Some(Step::Write(9))));
+/// assert_eq!(StepWord::new(3, Step::Write(1 << 52)), Err(Error::Refused(Refusal::ValueTooWide)));
+/// // A run has refusal 25 for this one.
+/// assert_eq!(StepWord(0xA000_0000_0000_0000).step(), None);
+/// # Ok::<(), Error>(())
+/// ```
+#[derive(Clone, Copy, Debug, PartialEq, Eq, Hash)]
+#[repr(transparent)]
+pub struct StepWord(pub u64);
+
+impl StepWord {
+    /// The word of a step by a client. A client above 255 is refused as unknown, and a value of 2^52 or more as too wide:
+    /// the word has no room for them.
+    pub const fn new(client: u64, step: Step) -> Result<Self, Error> {
+        let value = match step {
+            Step::Write(value) => value,
+            _ => 0,
+        };
+        if client > 255 {
+            return Err(Error::Refused(Refusal::UnknownClient));
+        }
+        if value > MAX_VALUE {
+            return Err(Error::Refused(Refusal::ValueTooWide));
+        }
+        Ok(StepWord(step.number() << 60 | client << 52 | value))
+    }
+
+    /// The step. A word whose number is 10 or above names none.
+    pub const fn step(self) -> Option<Step> {
+        match self.0 >> 60 {
+            0 => Some(Step::Name),
+            1 => Some(Step::Become),
+            2 => Some(Step::Abdicate),
+            3 => Some(Step::Fetch),
+            4 => Some(Step::CloseLast),
+            5 => Some(Step::Finish),
+            6 => Some(Step::Create),
+            7 => Some(Step::Append),
+            8 => Some(Step::Write(value_of(self.0))),
+            9 => Some(Step::CloseOwn),
+            _ => None,
+        }
+    }
+
+    /// The client, 0 to 255.
+    pub const fn client(self) -> u64 {
+        (self.0 >> 52) & 255
+    }
+
+    /// A plan's words, to keep, to send or to lend to [`calls`](crate::calls).
+    ///
+    /// ```
+    /// use cindrolf::{Error, Step, StepWord};
+    ///
+    /// let plan = [StepWord::new(1, Step::Name)?, StepWord::new(1, Step::Become)?];
+    /// let words = StepWord::words(&plan);
+    /// assert_eq!(words, [0x0010_0000_0000_0000, 0x1010_0000_0000_0000]);
+    /// assert_eq!(StepWord::from_words(words), plan);
+    /// # Ok::<(), Error>(())
+    /// ```
+    pub const fn words(plan: &[StepWord]) -> &[u64] {
+        // SAFETY: a step word is transparent, so both slices have the same layout, and every word is one of either.
+        unsafe { std::slice::from_raw_parts(plan.as_ptr().cast(), plan.len()) }
+    }
+
+    /// The plan in these words, which may be any.
+    pub const fn from_words(words: &[u64]) -> &[StepWord] {
+        // SAFETY: as above.
+        unsafe { std::slice::from_raw_parts(words.as_ptr().cast(), words.len()) }
+    }
+}
+
+/// What a run of a plan adds.
+#[derive(Clone, Copy, Debug, Default, PartialEq, Eq, Hash)]
+pub struct Forecast {
+    /// How many entries.
+    pub entries: u64,
+    /// How many ledger numbers: creates that are done.
+    pub ledgers: u64,
+    /// How many of its steps are refused. Was closed and behind are no refusals.
+    pub refusals: u64,
+}
+
+#[cfg(test)]
+mod tests {
+    use super::*;
+
+    // N B A F L K C P W O, from 0.
+    #[test]
+    fn words_of_steps() {
+        use Step::*;
+        let order = [Name, Become, Abdicate, Fetch, CloseLast, Finish, Create, Append, Write(0), CloseOwn];
+        for (number, step) in (0..).zip(order) {
+            assert_eq!(StepWord::new(0, step), Ok(StepWord(number * 0x1000_0000_0000_0000)));
+            let word = StepWord(number * 0x1000_0000_0000_0000 + 0x0FF0_0000_0000_0000);
+            assert_eq!(StepWord::new(255, step), Ok(word));
+            assert_eq!((word.client(), word.step()), (255, Some(step)));
+        }
+        for number in 10..16 {
+            assert_eq!(StepWord(number << 60).step(), None);
+        }
+        let widest = StepWord::new(15, Write(0xF_FFFF_FFFF_FFFF));
+        assert_eq!(widest, Ok(StepWord(0x80FF_FFFF_FFFF_FFFF)));
+        // The value of another step plays no part.
+        assert_eq!(StepWord(0x301F_FFFF_FFFF_FFFF).step(), Some(Fetch));
+    }
+
+    #[test]
+    fn no_room() {
+        for client in [256, 1 << 32, u64::MAX] {
+            assert_eq!(StepWord::new(client, Step::Write(u64::MAX)), Err(Error::Refused(Refusal::UnknownClient)));
+        }
+        for value in [1 << 52, u64::MAX] {
+            assert_eq!(StepWord::new(255, Step::Write(value)), Err(Error::Refused(Refusal::ValueTooWide)));
+        }
+    }
+}
