@@ -7,9 +7,9 @@
  *
  * Buffers of any length and content are answered, and so is every number. A null pointer with length 0 is an empty buffer; as state,
  * entries, marks or rights it gives refusal 1, as every wrong length does. What the caller answers for: any other pointer is not null, is
- * aligned for uint64_t (that to scores for uint16_t) and is valid for as many words or scores as the length beside it says; the buffers of
- * one call do not overlap: state, entries, marks, rights, plan, output and scores are separate pieces of memory; and no other thread uses
- * them during the call.
+ * aligned for uint64_t (that to scores for uint16_t, that to bytes need not be) and is valid for as many words, scores or bytes as the
+ * length beside it says; the buffers of one call do not overlap: state, entries, marks, rights, plan, output, scores, words and bytes are
+ * separate pieces of memory; and no other thread uses them during the call.
  *
  * Rust declares the same functions in an `extern "C"` block, and the structs as #[repr(C)].
  */
@@ -64,6 +64,9 @@ uint64_t cindrolf_version(void);
 /* The most words of a window. */
 #define CINDROLF_LONGEST_WINDOW 256
 
+/* The most words that are rearranged at once. */
+#define CINDROLF_REARRANGE_LIMIT 4096
+
 /* The stage of a client in a well-formed log, 0 to 6: waiting, fetching, closing the last ledger, creating, appending, writing, finishing. */
 #define CINDROLF_STAGE(state, client) ((state)[1 + (client)] >> 60 & 7)
 
@@ -109,6 +112,7 @@ static inline uint64_t cindrolf_answer_place(uint64_t answer) { return answer & 
 #define CINDROLF_REFUSAL_MARK_NOT_KEPT UINT64_C(23)     /* no mark of this name is kept */
 #define CINDROLF_REFUSAL_MISSING_RIGHT UINT64_C(24)     /* the client lacks the right to this step */
 #define CINDROLF_REFUSAL_UNKNOWN_STEP UINT64_C(25)      /* the step word names no step: its number is 10 or above */
+#define CINDROLF_REFUSAL_STORAGE_LENGTH UINT64_C(26)    /* there are more than 4096 words, or their bytes are not eight times as many */
 
 /* What cindrolf_advise answers where it does not refuse: the number of a step, or that there is none to take. The steps are numbered in
  * this order, in step words too. Name is never advised. */
@@ -316,6 +320,17 @@ uint64_t cindrolf_mark_drop(const uint64_t *state, size_t state_length, const ui
 struct cindrolf_chain_count cindrolf_mark_read(const uint64_t *state, size_t state_length, const uint64_t *entries, size_t entries_length,
                                                const uint64_t *marks, size_t marks_length, uint64_t name, uint64_t *output,
                                                size_t output_length);
+
+/* Words rearranged for storage on archive disks, and back. The words may be the entries of a log or any others: nothing is looked for in them. */
+
+/* Writes words to eight times as many bytes: the first word, and then the difference of each word from the word before it, wrapping at 2^64;
+ * of these all most significant bytes, then all next bytes, and so on. The words stay. Done, or refusal 26, which changes nothing. No words
+ * give no bytes. */
+uint64_t cindrolf_rearrange(const uint64_t *words, size_t words_length, uint8_t *bytes, size_t bytes_length);
+
+/* Gives back the words that cindrolf_rearrange wrote to these bytes, an eighth as many. Any bytes are those of some words. Done, or refusal 26,
+ * which changes nothing. */
+uint64_t cindrolf_restore(const uint8_t *bytes, size_t bytes_length, uint64_t *words, size_t words_length);
 
 #ifdef __cplusplus
 }

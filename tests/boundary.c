@@ -1,6 +1,6 @@
 /* The version of the library, null pointers with length 0, which every function takes for an empty buffer, an empty ledger that
  * its leader closes, the limits of lent scores, wide values, the numbers and places that writes answer, those of advised steps,
- * marks, rights, and plans. It compiles as C and as C++. */
+ * marks, rights, plans, and words that are rearranged. It compiles as C and as C++. */
 #include "cindrolf.h"
 
 #include <inttypes.h>
@@ -729,6 +729,46 @@ static void check_plans(void) {
     check_refused_plans();
 }
 
+/* Words and bytes of these lengths are refused both ways, and stay. */
+static void refuse_lengths(size_t words_length, size_t bytes_length) {
+    static uint64_t words[CINDROLF_REARRANGE_LIMIT + 1];
+    static uint8_t bytes[8 * (CINDROLF_REARRANGE_LIMIT + 1)];
+    memset(words, 5, sizeof words);
+    memset(bytes, 6, sizeof bytes);
+    expect("rearrange at a wrong length", cindrolf_rearrange(words, words_length, bytes, bytes_length), CINDROLF_REFUSED + 26);
+    expect("restore at a wrong length", cindrolf_restore(bytes, bytes_length, words, words_length), CINDROLF_REFUSED + 26);
+    for (size_t i = 0; i < sizeof bytes; i++)
+        expect("a byte after a refusal", bytes[i], 6);
+    for (size_t i = 0; i < CINDROLF_REARRANGE_LIMIT + 1; i++)
+        expect("a word after a refusal", words[i], UINT64_C(0x0505050505050505));
+}
+
+/* 5; then 256 up to 261; then 1 down to 260, which wraps. The bytes begin at an odd address, with one more on either side. */
+static void check_rearranged(void) {
+    const uint64_t words[] = {5, 261, 260};
+    const uint8_t expected[] = {9, 0, 0, 255, 0, 0, 255, 0, 0, 255, 0, 0, 255, 0, 0, 255, 0, 0, 255, 0, 1, 255, 5, 0, 255, 9};
+    uint64_t before[2 + sizeof expected / 8];
+    uint8_t *bytes = (uint8_t *)before;
+    uint64_t restored[] = {9, 9, 9, 9};
+    memset(bytes, 9, sizeof before);
+    expect("rearrange three words", cindrolf_rearrange(words, 3, bytes + 1, 24), CINDROLF_DONE);
+    for (size_t i = 0; i < sizeof expected; i++)
+        expect("a rearranged byte", bytes[i], expected[i]);
+    expect("restore them", cindrolf_restore(bytes + 1, 24, restored, 3), CINDROLF_DONE);
+    for (size_t i = 0; i < 3; i++)
+        expect("a restored word", restored[i], words[i]);
+    expect("the word behind them", restored[3], 9);
+    expect("rearrange no words", cindrolf_rearrange(NULL, 0, NULL, 0), CINDROLF_DONE);
+    expect("restore no bytes", cindrolf_restore(NULL, 0, NULL, 0), CINDROLF_DONE);
+    refuse_lengths(0, 1);
+    refuse_lengths(1, 0);
+    refuse_lengths(1, 7);
+    refuse_lengths(1, 9);
+    refuse_lengths(3, 16);
+    refuse_lengths(CINDROLF_REARRANGE_LIMIT, 8 * CINDROLF_REARRANGE_LIMIT - 1);
+    refuse_lengths(CINDROLF_REARRANGE_LIMIT + 1, 8 * (CINDROLF_REARRANGE_LIMIT + 1));
+}
+
 int main(void) {
     expect("version", cindrolf_version(), CINDROLF_VERSION);
 
@@ -764,5 +804,6 @@ int main(void) {
     check_marks();
     check_rights();
     check_plans();
+    check_rearranged();
     return wrong;
 }

@@ -90,8 +90,8 @@ pub forecast-called : {rights plan : List ℕ} {budget : ℕ} {b : Buffers} {r :
     → ForecastCall rights plan budget b (r .entries) (r .ledgers) (r .refusals)
 forecast-called o = record { entries-added = o .entries-added; ledgers-added = o .ledgers-added; refused = o .refused }
 
--- Fresh, read ledger, set and drop number no entry.
-numbers-none : (cs : List (Check Refusal)) → NumbersBelow (first cs Refused Done)
+-- Fresh, read ledger, set, drop, rearrange and restore number no entry.
+pub numbers-none : (cs : List (Check Refusal)) → NumbersBelow (first cs Refused Done)
 numbers-none cs = at _ (outcome cs Refused Done)
   where
     at : (a : Answer) → Outcome cs Refused Done a → NumbersBelow a

@@ -6,6 +6,7 @@ mod number;
 pub mod permitted;
 pub mod plan;
 pub mod reading;
+pub mod rearranged;
 pub mod step;
 pub mod version;
 pub mod window;

@@ -1,10 +1,13 @@
-//! What a write, a close, the check, a reading, a search for a window, a sum of scores and a plan of writes cost, beside plain Rust, in one
-//! run. See `--help`.
+//! What a write, a close, the check, a reading, a search for a window, a sum of scores, a plan of writes and words rearranged cost, beside plain Rust, in one
+//! run; and what compressors make of a full log. See `--help`.
 
+mod bars;
 mod checks;
 mod measure;
 mod plans;
 mod plot;
+mod sizes;
+mod storage;
 mod sums;
 mod windows;
 
@@ -23,12 +26,13 @@ use std::process::ExitCode;
 use std::time::Duration;
 
 const HELP: &str = "\
-Times a write, a close, the check, a reading, a search for a window, a sum of scores and a plan of writes of the proved
-library beside plain Rust, in turn.
+Times a write, a close, the check, a reading, a search for a window, a sum of scores, a plan of writes and words rearranged
+by the proved library beside plain Rust, in turn. Then has gzip and zstd compress a full log's entries, as they are and rearranged.
 
   --rounds N     rounds for each table (default 201)
   --plot FILE    where the plot of cost against entries and ledgers goes (default target/bench/cost.svg)
-  --no-plot      without it
+  --sizes FILE   where the plot of compressed sizes goes (default target/bench/sizes.svg)
+  --no-plot      without both
   --help         this text";
 
 const SLICE: Duration = Duration::from_micros(500);
@@ -36,10 +40,12 @@ const SLICE: Duration = Duration::from_micros(500);
 struct Options {
     rounds: usize,
     plot: Option<PathBuf>,
+    sizes: Option<PathBuf>,
 }
 
 fn options(mut args: impl Iterator<Item = String>) -> Result<Options, String> {
-    let mut options = Options { rounds: 201, plot: Some("target/bench/cost.svg".into()) };
+    let (plot, sizes) = ("target/bench/cost.svg".into(), "target/bench/sizes.svg".into());
+    let mut options = Options { rounds: 201, plot: Some(plot), sizes: Some(sizes) };
     while let Some(arg) = args.next() {
         let mut next = || args.next().ok_or(format!("{arg} wants a word after it"));
         match arg.as_str() {
@@ -49,7 +55,8 @@ fn options(mut args: impl Iterator<Item = String>) -> Result<Options, String> {
                 options.rounds = rounds.ok_or(format!("--rounds wants a number from 1, not '{text}'"))?;
             }
             "--plot" => options.plot = Some(next()?.into()),
-            "--no-plot" => options.plot = None,
+            "--sizes" => options.sizes = Some(next()?.into()),
+            "--no-plot" => (options.plot, options.sizes) = (None, None),
             _ => return Err(format!("unknown option '{arg}'\n\n{HELP}")),
         }
     }
@@ -228,6 +235,35 @@ fn sums_of_scores(log: &Buffers, rounds: usize) -> Vec<Times> {
     compared(&taken)
 }
 
+/// Random words of a full log's number, rearranged.
+fn rearranged(words: &[u64]) -> Vec<Candidate<'_>> {
+    let row = |name, rearrange: fn(&[u64], &mut [u8]) -> bool| {
+        let mut bytes = vec![0; 8 * words.len()];
+        Candidate::new(name, move || assert!(rearrange(black_box(words), black_box(&mut bytes))))
+    };
+    vec![
+        row("library", |words, bytes| calls::rearrange(words, bytes).is_ok()),
+        row("idiomatic, planes", storage::rearrange_by_planes),
+        row("idiomatic, words", storage::rearrange_by_words),
+        row("model", |words, bytes| model::storage::rearrange(words, bytes) == model::Answer::Done),
+    ]
+}
+
+/// Random bytes of as many words, restored.
+fn restored(bytes: &[u8]) -> Vec<Candidate<'_>> {
+    let row = |name, restore: fn(&[u8], &mut [u64]) -> bool| {
+        let mut words = vec![0; bytes.len() / 8];
+        Candidate::new(name, move || assert!(restore(black_box(bytes), black_box(&mut words))))
+    };
+    vec![
+        row("library", |bytes, words| calls::restore(bytes, words).is_ok()),
+        row("idiomatic, words", storage::restore_by_words),
+        row("idiomatic, parts", storage::restore_by_parts),
+        row("idiomatic, planes", storage::restore_by_planes),
+        row("model", |bytes, words| model::storage::restore(bytes, words) == model::Answer::Done),
+    ]
+}
+
 fn print(log: &str, operation: &str, times: &[Times]) {
     for each in times {
         let (time, ratio) = (each.nanoseconds, each.ratio);
@@ -272,11 +308,46 @@ fn tables(rounds: usize) {
     print("empty", "4000 scores", &sums_of_scores(&logs[0].1, rounds));
     let plan: Vec<u64> = (0..4_000).map(|value| (8 << 60) | (value * 0x1_0001)).collect();
     print("empty", "4000 writes", &compared(&interleaved(runs(&logs[0].1, &plan), rounds, SLICE)));
+    let mut random = Random::new(2);
+    let words: Vec<u64> = (0..4096).map(|_| random.word()).collect();
+    let bytes: Vec<u8> = words.iter().flat_map(|word| word.to_be_bytes()).collect();
+    print("4096 words", "rearrange", &compared(&interleaved(rearranged(&words), rounds, SLICE)));
+    print("4096 words", "restore", &compared(&interleaved(restored(&bytes), rounds, SLICE)));
     println!(
         "On the full log the write is the one that fills it, entry 4,095. The library's sum of 4,000 scores is what its \
          write of them takes more than its write of their sum, round by round. The 4,000 writes are one plan. Load after: {}.",
         about("/proc/loadavg", "")
     );
+}
+
+/// Prints what the compressors that are there make of a full log's entries, and plots it. One that is missing is named.
+fn compressed(path: Option<&Path>) -> std::io::Result<()> {
+    println!("Bytes of a full log's entries after compression: 32,768 before.");
+    println!("{:<32} {:<11} {:>8} {:>11} {:>6}", "run", "compressor", "plain", "rearranged", "ratio");
+    let mut all = vec![];
+    for (compressor, arguments) in sizes::COMPRESSORS {
+        match sizes::measured(compressor, arguments) {
+            Ok(sizes) => all.extend(sizes),
+            Err(error) => eprintln!("bench: no sizes from {compressor}: {error}"),
+        }
+    }
+    for each in &all {
+        let ratio = each.rearranged as f64 / each.plain as f64;
+        println!("{:<32} {:<11} {:>8} {:>11} {ratio:>6.2}", each.run, each.compressor, each.plain, each.rearranged);
+    }
+    match path {
+        Some(path) if !all.is_empty() => save(path, &bars::svg(&all)),
+        _ => Ok(()),
+    }
+}
+
+fn save(path: &Path, svg: &str) -> std::io::Result<()> {
+    if let Some(folder) = path.parent() {
+        std::fs::create_dir_all(folder)?;
+    }
+    std::fs::write(path, svg)?;
+    println!("The plot is in {}.", path.display());
+    Ok(())
 }
 
 /// Times by a number that grows, as lines.
@@ -308,12 +379,7 @@ fn draw(path: &Path, rounds: usize) -> std::io::Result<()> {
         grow("entries, in one ledger", &entries, rounds, |entries| chain(1, 1, entries)),
         grow("ledgers, of one entry each", &ledgers, rounds, |ledgers| chain(1, ledgers, ledgers)),
     ];
-    if let Some(folder) = path.parent() {
-        std::fs::create_dir_all(folder)?;
-    }
-    std::fs::write(path, plot::svg(&panels))?;
-    println!("The plot is in {}.", path.display());
-    Ok(())
+    save(path, &plot::svg(&panels))
 }
 
 fn main() -> ExitCode {
@@ -322,11 +388,12 @@ fn main() -> ExitCode {
         Err(status) => return status,
     };
     tables(options.rounds);
-    match options.plot.map(|path| draw(&path, options.rounds.div_ceil(3))) {
-        Some(Err(error)) => {
+    let sizes = compressed(options.sizes.as_deref());
+    match sizes.and(options.plot.map_or(Ok(()), |path| draw(&path, options.rounds.div_ceil(3)))) {
+        Err(error) => {
             eprintln!("bench: the plot can't be written: {error}");
             ExitCode::FAILURE
         }
-        _ => ExitCode::SUCCESS,
+        Ok(()) => ExitCode::SUCCESS,
     }
 }

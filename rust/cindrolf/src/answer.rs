@@ -200,7 +200,7 @@ mod tests {
     // A number is unknown to an operation that can't answer it, even where another operation can.
     #[test]
     fn unknown_numbers() {
-        for number in [3, 255, 256, 256 + 26, 65535, 65536, 0xFFFF_FFFF, 0x2_0000_0000] {
+        for number in [3, 255, 256, 256 + 27, 65535, 65536, 0xFFFF_FFFF, 0x2_0000_0000] {
             let unknown = Error::UnknownAnswer(number);
             assert_eq!(done(number), Err(unknown));
             assert_eq!(close_last(number), Err(unknown));

@@ -44,11 +44,12 @@
 //! # Ok::<(), Error>(())
 //! ```
 //!
-//! The unsafe blocks below are sound for one reason. The library reads and writes only the words and scores that it is
+//! The unsafe blocks below are sound for one reason. The library reads and writes only the words, bytes and scores that it is
 //! lent by pointer and length, keeps no pointer, and answers every content. The slices give it pointers that are aligned, not
 //! null and valid for their lengths. A `&mut` slice is lent to nobody else meanwhile, so what the library changes
 //! overlaps nothing. Each block's comment adds what is special to it.
 
+pub use crate::storage::{rearrange, restore};
 use crate::{
     Advice, CloseLast, Error, Finish, Forecast, LedgerNumber, MarkName, Position, Progress, ReadingPlace, answer, raw,
 };

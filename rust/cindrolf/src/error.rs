@@ -154,10 +154,12 @@ refusals! {
     MissingRight = 24, "the client lacks the right to this step";
     /// The step word names no step. It is the answer of such a step in a run, which gives no answers, and so of no call.
     UnknownStep = 25, "the step word names no step";
+    /// There are more than 4,096 words to rearrange, or their bytes aren't eight times as many.
+    StorageLength = 26, "there are more than 4,096 words, or their bytes are not eight times as many";
 }
 
 impl Refusal {
-    /// The refusal's number, 1 to 25.
+    /// The refusal's number, 1 to 26.
     pub const fn number(self) -> u64 {
         self as u64
     }
@@ -177,7 +179,7 @@ mod tests {
 
     #[test]
     fn numbers() {
-        assert_eq!(Refusal::ALL.len(), 25);
+        assert_eq!(Refusal::ALL.len(), 26);
         for (number, &refusal) in (1..).zip(Refusal::ALL) {
             assert_eq!(refusal.number(), number);
             assert_eq!(Refusal::from_number(number), Some(refusal));

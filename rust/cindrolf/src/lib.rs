@@ -157,6 +157,22 @@
 //! assert_eq!(log.view().entry_count(), 2);
 //! # Ok::<(), Error>(())
 //! ```
+//!
+//! The entries of a log for an archive disk: [`rearrange`] puts similar bytes together, so that a compressor finds them,
+//! and [`restore`] gives back every word.
+//!
+//! ```
+//! use cindrolf::{Error, Log, rearrange, restore};
+//!
+//! let log = Log::fresh(1)?;
+//! let mut bytes = vec![0; 8 * log.entries().len()];
+//! rearrange(log.entries(), &mut bytes)?;
+//!
+//! let mut entries = vec![0; bytes.len() / 8];
+//! restore(&bytes, &mut entries)?;
+//! assert_eq!(entries, log.entries());
+//! # Ok::<(), Error>(())
+//! ```
 
 mod answer;
 pub mod calls;
@@ -167,6 +183,7 @@ mod plan;
 #[doc(hidden)]
 pub mod raw;
 mod rights;
+mod storage;
 mod version;
 mod view;
 
@@ -176,6 +193,7 @@ pub use log::{Log, LogMut, LogRef, PermittedLog};
 pub use mark::MarkName;
 pub use plan::{Forecast, Step, StepWord};
 pub use rights::{Right, Rights};
+pub use storage::{rearrange, restore};
 pub use version::{VERSION, check_version};
 pub use view::{Client, Entry, Ledger, ListPlace, Remembered, Stage, View};
 
@@ -199,6 +217,8 @@ pub const MARKS_LIMIT: usize = 32;
 pub const RIGHTS_WORDS: usize = 16;
 /// The most words of a window.
 pub const LONGEST_WINDOW: u64 = 256;
+/// The most words that are rearranged at once.
+pub const REARRANGE_LIMIT: usize = 4096;
 
 /// The ledger number in an entry's word. The words that read chain and a reading at a mark write have none.
 pub const fn ledger_of(word: u64) -> Option<LedgerNumber> {

@@ -191,4 +191,6 @@ unsafe extern "C" {
         output: *mut u64,
         output_len: usize,
     ) -> ChainCount;
+    pub fn cindrolf_rearrange(words: *const u64, words_len: usize, bytes: *mut u8, bytes_len: usize) -> u64;
+    pub fn cindrolf_restore(bytes: *const u8, bytes_len: usize, words: *mut u64, words_len: usize) -> u64;
 }

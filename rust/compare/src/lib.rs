@@ -10,5 +10,6 @@ pub mod plans;
 pub mod rights;
 pub mod shrink;
 pub mod sides;
+pub mod storage;
 pub mod sweep;
 pub mod tally;

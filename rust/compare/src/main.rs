@@ -1,6 +1,7 @@
 //! Compares the proved library with the model. See `--help`.
 
 use compare::sides::Sides;
+use compare::storage::{self, Counts};
 use compare::{arguments, buffers, call, histories, logs, sweep};
 use model::random::Random;
 use std::process::ExitCode;
@@ -11,7 +12,7 @@ Compares the proved library with the model: every call on both, then the answers
 
   --seed N    the seed of the random calls (default 1)
   --calls N   how many random calls, half of them in histories from fresh logs, half on buffers of any kind
-              (default 1000000)
+              (default 1000000); and a hundredth as many that rearrange or restore words
   --no-sweep  without every single-bit change of four logs, of their marks and of their rights
   --help      this text
 
@@ -39,6 +40,16 @@ fn options(mut args: impl Iterator<Item = String>) -> Result<Options, String> {
         }
     }
     Ok(options)
+}
+
+/// Words rearranged and restored: the lengths at the edges, and a hundredth as many random calls as on logs.
+fn run_storage(options: &Options, counts: &mut Counts) -> Result<(), String> {
+    storage::edges(storage::library, counts)?;
+    let mut random = Random::new(options.seed);
+    while counts.calls() < options.calls / 100 {
+        storage::compare(storage::library, counts, &mut random)?;
+    }
+    Ok(())
 }
 
 /// Prints at most every two seconds, so that a long run shows that it goes on.
@@ -96,20 +107,21 @@ fn main() -> ExitCode {
     println!("compare: seed {}, {} random calls", options.seed, options.calls);
     let mut sides = Sides::new(call::library);
     let start = Instant::now();
-    let result = run(&options, &mut sides);
-    print!("{}", sides.tally);
+    let mut counts = Counts::default();
+    let result = run(&options, &mut sides).and_then(|()| run_storage(&options, &mut counts));
+    print!("{}{counts}", sides.tally);
     let never = sides.tally.never_met();
     if !never.is_empty() {
         println!("never met: {}", never.join(", "));
     }
-    let seconds = start.elapsed().as_secs_f64();
+    let (seconds, calls) = (start.elapsed().as_secs_f64(), sides.tally.calls() + counts.calls());
     match result {
         Ok(()) => {
-            println!("compare: {} calls, no difference, {seconds:.1} s", sides.tally.calls());
+            println!("compare: {calls} calls, no difference, {seconds:.1} s");
             ExitCode::SUCCESS
         }
         Err(report) => {
-            println!("compare: a difference after {} calls (seed {})\n{report}", sides.tally.calls(), options.seed);
+            println!("compare: a difference after {calls} calls (seed {})\n{report}", options.seed);
             ExitCode::FAILURE
         }
     }
