@@ -7,9 +7,9 @@
  *
  * Buffers of any length and content are answered, and so is every number. A null pointer with length 0 is an empty buffer; as state,
  * entries, marks or rights it gives refusal 1, as every wrong length does. What the caller answers for: any other pointer is not null, is
- * aligned for uint64_t (that to scores for uint16_t, that to bytes need not be) and is valid for as many words, scores or bytes as the
- * length beside it says; the buffers of one call do not overlap: state, entries, marks, rights, plan, output, scores, words and bytes are
- * separate pieces of memory; and no other thread uses them during the call.
+ * aligned for uint64_t (that to scores for uint16_t, that to bytes or text need not be) and is valid for as many words, scores or bytes as
+ * the length beside it says; the buffers of one call do not overlap: state, entries, marks, rights, plan, output, scores, words, bytes and
+ * text are separate pieces of memory; and no other thread uses them during the call.
  *
  * Rust declares the same functions in an `extern "C"` block, and the structs as #[repr(C)].
  */
@@ -67,6 +67,9 @@ uint64_t cindrolf_version(void);
 /* The most words that are rearranged at once. */
 #define CINDROLF_REARRANGE_LIMIT 4096
 
+/* The fewest bytes of a text buffer; every sentence fits them. */
+#define CINDROLF_TEXT_BYTES 96
+
 /* The stage of a client in a well-formed log, 0 to 6: waiting, fetching, closing the last ledger, creating, appending, writing, finishing. */
 #define CINDROLF_STAGE(state, client) ((state)[1 + (client)] >> 60 & 7)
 
@@ -86,36 +89,38 @@ uint64_t cindrolf_version(void);
 static inline uint64_t cindrolf_answer_entry(uint64_t answer) { return (answer - CINDROLF_ENTRY) >> 16; }
 static inline uint64_t cindrolf_answer_place(uint64_t answer) { return answer & 65535; }
 
-/* The refusals. The first that applies is given; it changes no word of any buffer. */
-#define CINDROLF_REFUSAL_WRONG_LENGTH UINT64_C(1)       /* state, entries, marks or rights has another length than those above */
-#define CINDROLF_REFUSAL_NOT_WELL_FORMED UINT64_C(2)    /* the buffers hold no log, or no marks or rights of this log */
-#define CINDROLF_REFUSAL_UNKNOWN_CLIENT UINT64_C(3)     /* the client is not below the client count */
-#define CINDROLF_REFUSAL_ALREADY_NAMED UINT64_C(4)      /* the client is the named leader */
-#define CINDROLF_REFUSAL_ALREADY_LEADS UINT64_C(5)      /* the client leads already */
-#define CINDROLF_REFUSAL_NOT_NAMED UINT64_C(6)          /* the client is not the named leader */
-#define CINDROLF_REFUSAL_DOES_NOT_LEAD UINT64_C(7)      /* the client does not lead */
-#define CINDROLF_REFUSAL_OTHER_STAGE UINT64_C(8)        /* the client is at another stage than this step's */
-#define CINDROLF_REFUSAL_IMPOSSIBLE_MEMORY UINT64_C(9)  /* what the client remembers can't be; never met from a fresh log */
-#define CINDROLF_REFUSAL_NO_LEDGER_NUMBER UINT64_C(10)  /* all 255 ledgers are created */
-#define CINDROLF_REFUSAL_VALUE_TOO_WIDE UINT64_C(11)    /* the value is 2^52 or more */
-#define CINDROLF_REFUSAL_LEDGER_FENCED UINT64_C(12)     /* another leader has fenced the client's ledger */
-#define CINDROLF_REFUSAL_LOG_FULL UINT64_C(13)          /* there are 4096 entries */
-#define CINDROLF_REFUSAL_LEDGER_EMPTY UINT64_C(14)      /* withdrawn: no operation gives it */
-#define CINDROLF_REFUSAL_NOT_LISTED UINT64_C(15)        /* the ledger is not in the list */
-#define CINDROLF_REFUSAL_OUTPUT_TOO_SHORT UINT64_C(16)  /* the output buffer is shorter than the reading */
-#define CINDROLF_REFUSAL_CLIENT_COUNT UINT64_C(17)      /* the client count is 0 or above 16 */
-#define CINDROLF_REFUSAL_SCORE_COUNT UINT64_C(18)       /* there are no scores, or more than 4000 */
-#define CINDROLF_REFUSAL_SCORE_TOO_HIGH UINT64_C(19)    /* a score is above 372 */
-#define CINDROLF_REFUSAL_WINDOW_LENGTH UINT64_C(20)     /* the window's length is 0 or above 256 */
-#define CINDROLF_REFUSAL_MARK_NAME_TAKEN UINT64_C(21)   /* a mark of this name is kept already, or the name is all zero */
-#define CINDROLF_REFUSAL_MARKS_FULL UINT64_C(22)        /* there are 32 marks */
-#define CINDROLF_REFUSAL_MARK_NOT_KEPT UINT64_C(23)     /* no mark of this name is kept */
-#define CINDROLF_REFUSAL_MISSING_RIGHT UINT64_C(24)     /* the client lacks the right to this step */
-#define CINDROLF_REFUSAL_UNKNOWN_STEP UINT64_C(25)      /* the step word names no step: its number is 10 or above */
-#define CINDROLF_REFUSAL_STORAGE_LENGTH UINT64_C(26)    /* there are more than 4096 words, or their bytes are not eight times as many */
+/* The refusals, each with its reason in the words of cindrolf_sentence. The first that applies is given; it changes no word of any buffer. */
+#define CINDROLF_REFUSAL_WRONG_LENGTH UINT64_C(1)      /* a buffer has the wrong length: state, entries, marks or rights */
+#define CINDROLF_REFUSAL_NOT_WELL_FORMED UINT64_C(2)   /* a buffer is not well formed: state, entries, marks or rights */
+#define CINDROLF_REFUSAL_UNKNOWN_CLIENT UINT64_C(3)    /* the client number is not below the client count */
+#define CINDROLF_REFUSAL_ALREADY_NAMED UINT64_C(4)     /* the client is the named leader */
+#define CINDROLF_REFUSAL_ALREADY_LEADS UINT64_C(5)     /* the client leads already */
+#define CINDROLF_REFUSAL_NOT_NAMED UINT64_C(6)         /* the client is not the named leader */
+#define CINDROLF_REFUSAL_DOES_NOT_LEAD UINT64_C(7)     /* the client does not lead */
+#define CINDROLF_REFUSAL_OTHER_STAGE UINT64_C(8)       /* the client is at another stage */
+#define CINDROLF_REFUSAL_IMPOSSIBLE_MEMORY UINT64_C(9) /* the client remembers what cannot be: never met from a fresh log */
+#define CINDROLF_REFUSAL_NO_LEDGER_NUMBER UINT64_C(10) /* no ledger number is left: all 255 are created */
+#define CINDROLF_REFUSAL_VALUE_TOO_WIDE UINT64_C(11)   /* the value has more than fifty two bits: it is 2^52 or more */
+#define CINDROLF_REFUSAL_LEDGER_FENCED UINT64_C(12)    /* another leader has fenced the ledger */
+#define CINDROLF_REFUSAL_LOG_FULL UINT64_C(13)         /* the log is full: it has 4096 entries */
+#define CINDROLF_REFUSAL_LEDGER_EMPTY UINT64_C(14)     /* the ledger has no entry: withdrawn, no operation gives it */
+#define CINDROLF_REFUSAL_NOT_LISTED UINT64_C(15)       /* the ledger is not in the list */
+#define CINDROLF_REFUSAL_OUTPUT_TOO_SHORT UINT64_C(16) /* the output buffer is shorter than the reading */
+#define CINDROLF_REFUSAL_CLIENT_COUNT UINT64_C(17)     /* the client count is not one to sixteen */
+#define CINDROLF_REFUSAL_SCORE_COUNT UINT64_C(18)      /* there are no scores or more than four thousand */
+#define CINDROLF_REFUSAL_SCORE_TOO_HIGH UINT64_C(19)   /* a score is above three hundred and seventy two: 372 is the highest */
+#define CINDROLF_REFUSAL_WINDOW_LENGTH UINT64_C(20)    /* the window length is zero or too large: 256 is the largest */
+#define CINDROLF_REFUSAL_MARK_NAME_TAKEN UINT64_C(21)  /* the name of the mark is taken or all zero */
+#define CINDROLF_REFUSAL_MARKS_FULL UINT64_C(22)       /* thirty two marks are kept already */
+#define CINDROLF_REFUSAL_MARK_NOT_KEPT UINT64_C(23)    /* no mark of this name is kept */
+#define CINDROLF_REFUSAL_MISSING_RIGHT UINT64_C(24)    /* the client lacks the right to this step */
+#define CINDROLF_REFUSAL_UNKNOWN_STEP UINT64_C(25)     /* the step number is above nine */
+#define CINDROLF_REFUSAL_STORAGE_LENGTH UINT64_C(26)   /* too many words or not eight bytes for each: 4096 words are the most */
+#define CINDROLF_REFUSAL_TEXT_TOO_SHORT UINT64_C(27)   /* the text buffer has fewer than ninety six bytes */
+#define CINDROLF_REFUSAL_NO_SENTENCE UINT64_C(28)      /* there is no sentence for these numbers */
 
-/* What cindrolf_advise answers where it does not refuse: the number of a step, or that there is none to take. The steps are numbered in
- * this order, in step words too. Name is never advised. */
+/* The numbers of the steps, in this order: what cindrolf_advise answers where it does not refuse, or that there is no step to take, what
+ * stands in step words, and what cindrolf_sentence takes. Name is never advised. */
 #define CINDROLF_STEP_NAME UINT64_C(0)
 #define CINDROLF_STEP_BECOME UINT64_C(1)
 #define CINDROLF_STEP_ABDICATE UINT64_C(2)
@@ -331,6 +336,19 @@ uint64_t cindrolf_rearrange(const uint64_t *words, size_t words_length, uint8_t 
 /* Gives back the words that cindrolf_rearrange wrote to these bytes, an eighth as many. Any bytes are those of some words. Done, or refusal 26,
  * which changes nothing. */
 uint64_t cindrolf_restore(const uint8_t *bytes, size_t bytes_length, uint64_t *words, size_t words_length);
+
+/* How many bytes the sentence of cindrolf_sentence has, 0 on a refusal. */
+struct cindrolf_sentence_bytes {
+    uint64_t answer;
+    uint64_t length;
+};
+
+/* Writes a refusal as one sentence to the front of the text buffer, without a byte 0 at its end; the bytes after it stay. It is the step's
+ * name, " of client ", the client's number, ": " and the refusal's reason, all in small letters, as in "write of client 7: the log is full".
+ * No two calls with other numbers give the same sentence. Done; or refusal 27, where the buffer has fewer than CINDROLF_TEXT_BYTES bytes, or
+ * 28, where the step is above CINDROLF_STEP_CLOSE_OWN, the client above 255, or the refusal 0 or above CINDROLF_REFUSAL_NO_SENTENCE. A
+ * refusal changes no byte. The refusal is given by its number, without CINDROLF_REFUSED. */
+struct cindrolf_sentence_bytes cindrolf_sentence(uint64_t step, uint64_t client, uint64_t refusal, char *text, size_t text_length);
 
 #ifdef __cplusplus
 }

@@ -1,6 +1,6 @@
 /* The version of the library, null pointers with length 0, which every function takes for an empty buffer, an empty ledger that
  * its leader closes, the limits of lent scores, wide values, the numbers and places that writes answer, those of advised steps,
- * marks, rights, plans, and words that are rearranged. It compiles as C and as C++. */
+ * marks, rights, plans, words that are rearranged, and refusals in words. It compiles as C and as C++. */
 #include "cindrolf.h"
 
 #include <inttypes.h>
@@ -769,6 +769,52 @@ static void check_rearranged(void) {
     refuse_lengths(CINDROLF_REARRANGE_LIMIT + 1, 8 * (CINDROLF_REARRANGE_LIMIT + 1));
 }
 
+/* A text buffer of which one byte more than is lent must stay. */
+static char text[CINDROLF_TEXT_BYTES + 1];
+
+/* So many bytes of the text are this sentence, and every byte behind it is as it was. */
+static void expect_text(const char *sentence, size_t length) {
+    expect("a sentence's bytes", (uint64_t)(memcmp(text, sentence, length) != 0), 0);
+    for (size_t i = length; i < sizeof text; i++)
+        expect("a byte behind a sentence", (uint64_t)(unsigned char)text[i], '#');
+}
+
+static void expect_sentence(uint64_t step, uint64_t client, uint64_t refusal, const char *sentence) {
+    memset(text, '#', sizeof text);
+    struct cindrolf_sentence_bytes said = cindrolf_sentence(step, client, refusal, text, CINDROLF_TEXT_BYTES);
+    expect("a sentence", said.answer, CINDROLF_DONE);
+    expect("its length", said.length, strlen(sentence));
+    expect_text(sentence, strlen(sentence));
+}
+
+static void refuse_sentence(uint64_t step, uint64_t client, uint64_t refusal, char *bytes, size_t length, uint64_t given) {
+    memset(text, '#', sizeof text);
+    struct cindrolf_sentence_bytes said = cindrolf_sentence(step, client, refusal, bytes, length);
+    expect("a refused sentence", said.answer, CINDROLF_REFUSED + given);
+    expect("its length", said.length, 0);
+    expect_text("", 0);
+}
+
+/* 27 comes before 28, and numbers are not cut to fewer bits. */
+static void check_sentences(void) {
+    const uint64_t last = CINDROLF_REFUSAL_NO_SENTENCE, none = last, too_short = CINDROLF_REFUSAL_TEXT_TOO_SHORT;
+    const uint64_t far = UINT64_C(1) << 32;
+    expect_sentence(CINDROLF_STEP_NAME, 0, 1, "name of client 0: a buffer has the wrong length");
+    expect_sentence(CINDROLF_STEP_CLOSE_LAST, 7, CINDROLF_REFUSAL_DOES_NOT_LEAD, "close last of client 7: the client does not lead");
+    expect_sentence(CINDROLF_STEP_FINISH, 10, 14, "finish of client 10: the ledger has no entry");
+    expect_sentence(CINDROLF_STEP_CLOSE_OWN, 255, last, "close own of client 255: there is no sentence for these numbers");
+    refuse_sentence(CINDROLF_STEP_WRITE, 0, 1, text, CINDROLF_TEXT_BYTES - 1, too_short);
+    refuse_sentence(10, 256, 0, text, CINDROLF_TEXT_BYTES - 1, too_short);
+    refuse_sentence(CINDROLF_STEP_WRITE, 0, 1, NULL, 0, too_short);
+    refuse_sentence(10, 0, 1, text, CINDROLF_TEXT_BYTES, none);
+    refuse_sentence(far, 0, 1, text, CINDROLF_TEXT_BYTES, none);
+    refuse_sentence(0, 256, 1, text, CINDROLF_TEXT_BYTES, none);
+    refuse_sentence(0, far, 1, text, CINDROLF_TEXT_BYTES, none);
+    refuse_sentence(0, 0, 0, text, CINDROLF_TEXT_BYTES, none);
+    refuse_sentence(0, 0, last + 1, text, CINDROLF_TEXT_BYTES, none);
+    refuse_sentence(0, 0, far + 1, text, CINDROLF_TEXT_BYTES, none);
+}
+
 int main(void) {
     expect("version", cindrolf_version(), CINDROLF_VERSION);
 
@@ -805,5 +851,6 @@ int main(void) {
     check_rights();
     check_plans();
     check_rearranged();
+    check_sentences();
     return wrong;
 }

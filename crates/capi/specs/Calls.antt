@@ -22,6 +22,8 @@ use Rattle.plans.specs.declared.forecast.Forecast.{Forecast}
 use Rattle.plans.specs.Runs.{Foretells}
 use Rattle.chain.specs.Laws.Numbers.{NumbersBelow, step-numbers}
 use Rattle.fresh.specs.Fresh.{FreshResult}
+use Rattle.sentences.specs.declared.answer.SentenceAnswer.{SentenceAnswer}
+use Rattle.sentences.specs.Sentences.{sentenceAnswer, sentenceText, sentenceNumber, sentenceLength}
 use Rattle.readers.specs.Locate.{partStart, Locates}
 
 -- The number of this interface, the same as CINDROLF_VERSION in include/cindrolf.h.
@@ -90,6 +92,12 @@ pub forecast-called : {rights plan : List ℕ} {budget : ℕ} {b : Buffers} {r :
     → ForecastCall rights plan budget b (r .entries) (r .ledgers) (r .refusals)
 forecast-called o = record { entries-added = o .entries-added; ledgers-added = o .ledgers-added; refused = o .refused }
 
+-- A refusal in words: its answer and its length as two numbers, and every byte of the text buffer afterwards.
+pub record SentenceCall (step client refusal : ℕ) (text : List ℕ) (answer length : ℕ) (after : List ℕ) : Type 0 where
+  pub answers : answer ≡ sentenceNumber (sentenceAnswer step client refusal text)
+  pub lengths : length ≡ sentenceLength (sentenceAnswer step client refusal text)
+  pub text-bytes : after ≡ sentenceText step client refusal text
+
 -- Fresh, read ledger, set, drop, rearrange and restore number no entry.
 pub numbers-none : (cs : List (Check Refusal)) → NumbersBelow (first cs Refused Done)
 numbers-none cs = at _ (outcome cs Refused Done)
@@ -148,3 +156,7 @@ module _ (name : ℕ) (b : Buffers) (ms : List ℕ) {a : Answer} where
 pub read-mark-called : {name : ℕ} {b : Buffers} {ms output after : List ℕ} {a : ChainAnswer} {r n : ℕ} → a ≡ readMarkAnswer name b ms output
     → after ≡ readMarkOutput name b ms output → r ≡ chainNumber a → n ≡ chainCount a → ReadMarkCall name b ms output r n after
 read-mark-called e o p q = record { answers = p ∙ ap chainNumber e; counts = q ∙ ap chainCount e; output-words = o }
+
+pub sentence-called : {step client refusal : ℕ} {text after : List ℕ} {a : SentenceAnswer} {r n : ℕ} → a ≡ sentenceAnswer step client refusal text
+    → after ≡ sentenceText step client refusal text → r ≡ sentenceNumber a → n ≡ sentenceLength a → SentenceCall step client refusal text r n after
+sentence-called e o p q = record { answers = p ∙ ap sentenceNumber e; lengths = q ∙ ap sentenceLength e; text-bytes = o }

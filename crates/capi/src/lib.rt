@@ -7,6 +7,7 @@ pub mod permitted;
 pub mod plan;
 pub mod reading;
 pub mod rearranged;
+pub mod sentence;
 pub mod step;
 pub mod version;
 pub mod window;

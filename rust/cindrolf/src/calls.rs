@@ -355,3 +355,14 @@ pub fn read_mark(
     };
     words_read(read, output.len())
 }
+
+/// Writes the sentence of a refusal to the front of the text, and answers how many bytes it has. The bytes after it
+/// stay. The step is given by its number, 0 to 9 in the order name, become, abdicate, fetch, close last, finish, create,
+/// append, write, close own; the text has [`TEXT_BYTES`](crate::TEXT_BYTES) bytes or more.
+pub fn sentence(step: u64, client: u64, refusal: u64, text: &mut [u8]) -> Result<usize, Error> {
+    // SAFETY: the text alone is changed, and it is exclusive; the answer is a struct of two numbers.
+    let said = unsafe { raw::cindrolf_sentence(step, client, refusal, text.as_mut_ptr(), text.len()) };
+    answer::done(said.answer)?;
+    let length = said.length as usize;
+    if length <= text.len() { Ok(length) } else { Err(Error::UnknownAnswer(said.length)) }
+}

@@ -1,6 +1,6 @@
 //! Refusals, and what else may keep an operation from its answer.
 
-use crate::VERSION;
+use crate::{TEXT_BYTES, VERSION, calls};
 use std::fmt;
 
 /// Why an operation gave no answer.
@@ -107,7 +107,7 @@ refusals! {
     /// hasn't 16.
     WrongLength = 1, "a buffer has the wrong length";
     /// The buffers hold no log, or the marks or the rights are none of this log.
-    NotWellFormed = 2, "the buffers hold no well-formed log, or no marks or rights of it";
+    NotWellFormed = 2, "a buffer is not well formed";
     /// The client number isn't below the client count.
     UnknownClient = 3, "the client number is not below the client count";
     /// The client is the named leader: it can't be named again, and it can't abdicate.
@@ -119,52 +119,74 @@ refusals! {
     /// The client doesn't lead.
     DoesNotLead = 7, "the client does not lead";
     /// The client leads, and is at another stage than this step's.
-    OtherStage = 8, "the client is at another stage than this step's";
+    OtherStage = 8, "the client is at another stage";
     /// What the client remembers can't be. It never occurs on a log that began fresh.
     ImpossibleMemory = 9, "the client remembers what cannot be";
     /// All 255 ledger numbers are in use.
     NoLedgerNumber = 10, "no ledger number is left";
     /// The value is 2^52 or more.
-    ValueTooWide = 11, "the value is 2^52 or more";
+    ValueTooWide = 11, "the value has more than fifty two bits";
     /// Another leader has fenced the client's ledger.
-    LedgerFenced = 12, "another leader has fenced the client's ledger";
+    LedgerFenced = 12, "another leader has fenced the ledger";
     /// All 4,096 entries are in use.
     LogFull = 13, "the log is full";
     /// Withdrawn: no operation gives it, and its number stays taken. An empty ledger is closed as any other.
-    LedgerEmpty = 14, "the client's ledger has no entry";
+    LedgerEmpty = 14, "the ledger has no entry";
     /// The ledger isn't in the list.
     NotListed = 15, "the ledger is not in the list";
     /// The output buffer is shorter than the reading.
     OutputTooShort = 16, "the output buffer is shorter than the reading";
     /// The client count is 0 or above 16.
-    ClientCount = 17, "the client count is not 1 to 16";
+    ClientCount = 17, "the client count is not one to sixteen";
     /// There are no scores, or more than 4,000.
-    ScoreCount = 18, "the number of scores is not 1 to 4,000";
+    ScoreCount = 18, "there are no scores or more than four thousand";
     /// A score is above 372.
-    ScoreTooHigh = 19, "a score is above 372";
+    ScoreTooHigh = 19, "a score is above three hundred and seventy two";
     /// The window's length is 0 or above 256.
-    WindowLength = 20, "the window's length is not 1 to 256";
+    WindowLength = 20, "the window length is zero or too large";
     /// A mark of this name is kept already, or the name is all zero.
-    MarkNameTaken = 21, "a mark of this name is kept already, or the name is all zero";
+    MarkNameTaken = 21, "the name of the mark is taken or all zero";
     /// All 32 marks are in use.
-    MarksFull = 22, "32 marks are kept";
+    MarksFull = 22, "thirty two marks are kept already";
     /// No mark of this name is kept.
     MarkNotKept = 23, "no mark of this name is kept";
     /// The client lacks the right to this step.
     MissingRight = 24, "the client lacks the right to this step";
     /// The step word names no step. It is the answer of such a step in a run, which gives no answers, and so of no call.
-    UnknownStep = 25, "the step word names no step";
+    UnknownStep = 25, "the step number is above nine";
     /// There are more than 4,096 words to rearrange, or their bytes aren't eight times as many.
-    StorageLength = 26, "there are more than 4,096 words, or their bytes are not eight times as many";
+    StorageLength = 26, "too many words or not eight bytes for each";
+    /// The text buffer has fewer than 96 bytes.
+    TextTooShort = 27, "the text buffer has fewer than ninety six bytes";
+    /// There is no such step, the client is above 255, or there is no such refusal.
+    NoSentence = 28, "there is no sentence for these numbers";
 }
 
 impl Refusal {
-    /// The refusal's number, 1 to 26.
+    /// The refusal's number, 1 to 28.
     pub const fn number(self) -> u64 {
         self as u64
     }
+
+    /// The refusal as one sentence, with the step that was refused and its client. The step is given by its number, 0 to
+    /// 9, as to [`calls::sentence`](crate::calls::sentence()); the client is at most 255.
+    ///
+    /// ```
+    /// use cindrolf::{Error, Refusal};
+    ///
+    /// let sentence = Refusal::DoesNotLead.sentence(4, 7)?;
+    /// assert_eq!(sentence, "close last of client 7: the client does not lead");
+    /// assert_eq!(Refusal::DoesNotLead.sentence(4, 256), Err(Error::Refused(Refusal::NoSentence)));
+    /// # Ok::<(), Error>(())
+    /// ```
+    pub fn sentence(self, step: u64, client: u64) -> Result<String, Error> {
+        let mut text = [0; TEXT_BYTES];
+        let length = calls::sentence(step, client, self.number(), &mut text)?;
+        Ok(String::from_utf8_lossy(&text[..length]).into_owned())
+    }
 }
 
+/// The reason, as in the refusal's sentences.
 impl fmt::Display for Refusal {
     fn fmt(&self, f: &mut fmt::Formatter<'_>) -> fmt::Result {
         f.write_str(self.text())
@@ -179,7 +201,7 @@ mod tests {
 
     #[test]
     fn numbers() {
-        assert_eq!(Refusal::ALL.len(), 26);
+        assert_eq!(Refusal::ALL.len(), 28);
         for (number, &refusal) in (1..).zip(Refusal::ALL) {
             assert_eq!(refusal.number(), number);
             assert_eq!(Refusal::from_number(number), Some(refusal));

@@ -173,6 +173,18 @@
 //! assert_eq!(entries, log.entries());
 //! # Ok::<(), Error>(())
 //! ```
+//!
+//! A refusal as one sentence, for a screen:
+//!
+//! ```
+//! use cindrolf::{Error, Log};
+//!
+//! const WRITE: u64 = 8;
+//! let mut log = Log::fresh(8)?;
+//! let refusal = log.write(7, 1).unwrap_err().refusal().expect("client 7 does not lead");
+//! assert_eq!(refusal.sentence(WRITE, 7)?, "write of client 7: the client does not lead");
+//! # Ok::<(), Error>(())
+//! ```
 
 mod answer;
 pub mod calls;
@@ -219,6 +231,8 @@ pub const RIGHTS_WORDS: usize = 16;
 pub const LONGEST_WINDOW: u64 = 256;
 /// The most words that are rearranged at once.
 pub const REARRANGE_LIMIT: usize = 4096;
+/// The fewest bytes of a text buffer. Every sentence fits them.
+pub const TEXT_BYTES: usize = 96;
 
 /// The ledger number in an entry's word. The words that read chain and a reading at a mark write have none.
 pub const fn ledger_of(word: u64) -> Option<LedgerNumber> {

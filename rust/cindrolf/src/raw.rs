@@ -28,6 +28,12 @@ pub struct PlanCounts {
     pub refusals: u64,
 }
 
+#[repr(C)]
+pub struct SentenceBytes {
+    pub answer: u64,
+    pub length: u64,
+}
+
 // Operations that change both buffers, each with the numbers that it takes.
 macro_rules! operations {
     ($($name:ident($($number:ident),*);)*) => {
@@ -193,4 +199,5 @@ unsafe extern "C" {
     ) -> ChainCount;
     pub fn cindrolf_rearrange(words: *const u64, words_len: usize, bytes: *mut u8, bytes_len: usize) -> u64;
     pub fn cindrolf_restore(bytes: *const u8, bytes_len: usize, words: *mut u64, words_len: usize) -> u64;
+    pub fn cindrolf_sentence(step: u64, client: u64, refusal: u64, text: *mut u8, text_len: usize) -> SentenceBytes;
 }

@@ -339,7 +339,7 @@ fn library_window(lent: &Lent, length: u64, limit: u64) -> Outcome {
 fn numbered(number: u64) -> Answer {
     match number {
         0 => Answer::Done,
-        257..=282 => Answer::Refused(number - 256),
+        257..=284 => Answer::Refused(number - 256),
         _ => Answer::Refused(u64::MAX),
     }
 }

@@ -8,6 +8,7 @@ pub mod logs;
 pub mod marks;
 pub mod plans;
 pub mod rights;
+pub mod sentences;
 pub mod shrink;
 pub mod sides;
 pub mod storage;

@@ -4,8 +4,8 @@
 //! It says everything twice. [`words`] has the operations on buffers of any length and content, with the checks in the reference's
 //! order. [`source`] has histories of a fresh log in LedgerChaining's terms, where each client remembers the whole list. The test
 //! in `tests/` holds the two against each other, on random [`histories`]. [`scores`] has what a list of quality scores comes to, and [`lists`] has such lists.
-//! [`marks`] has the marks that are kept beside a log, [`rights`] who may take which step, [`plans`] steps as words, run in a row, and
-//! [`storage`] rearranges words, of a log or not.
+//! [`marks`] has the marks that are kept beside a log, [`rights`] who may take which step, [`plans`] steps as words, run in a row,
+//! [`storage`] rearranges words, of a log or not, and [`sentences`] has refusals in words.
 
 pub mod histories;
 pub mod layout;
@@ -15,6 +15,7 @@ pub mod plans;
 pub mod random;
 pub mod rights;
 pub mod scores;
+pub mod sentences;
 pub mod source;
 pub mod storage;
 pub mod words;

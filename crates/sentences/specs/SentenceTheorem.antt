@@ -1,0 +1,136 @@
+-- The promise of sentences holds.
+use Prim.Native.Nat.{ℕ, _+_, _-_, _<_, _≤_}
+use native.Mathlib.Omega.{arith}
+use mathlib.Core.Path.{_≡_, refl, sym, ap, _∙_}
+use mathlib.Core.List.{List, _++_}
+use lib.ListN.{length, take, drop, length-append, length-drop}
+use lib.Seq.{take-append-seam, drop-append-seam}
+use Rattle.text.specs.Bytes.{bytes}
+use Rattle.text.specs.Decimal.{decimal}
+use Rattle.checks.specs.Test.{less, Holds, Fails, test}
+use Rattle.checks.specs.TestLaws.{by-test, clash, holds-true}
+use Rattle.checks.specs.Checks.{passed-first}
+use Rattle.chain.specs.declared.answer.Refusal.{Refusal}
+use Rattle.chain.specs.declared.answer.Refusal.the-variants.{TextTooShort, NoSentence}
+use Rattle.sentences.specs.declared.answer.SentenceAnswer.{SentenceAnswer}
+use Rattle.sentences.specs.declared.answer.SentenceAnswer.the-variants.{Length, Refused}
+use Rattle.sentences.specs.Phrases.{stepName, reason}
+use Rattle.sentences.specs.Sentences.{sentence, fewestBytes, unsaid, sentenceChecks, sentenceAnswer, sentenceText}
+use Rattle.sentences.specs.PhraseTables.{name-holds, reason-holds}
+use Rattle.sentences.specs.Lengths.{some-refusal, sentence-length}
+use Rattle.sentences.specs.Reading.{same-sentence}
+use Rattle.sentences.specs.Said.{too-short, not-said}
+use Rattle.sentences.specs.SentencePromise.{Numbers, SaysRefusals}
+
+-- The condition of 28 says which numbers these are not.
+numbers : (s c r : ℕ) → Fails (unsaid s c r) → Numbers s c r
+numbers s c r f = record {
+  step-number = f .0 .0;
+  client-number = f .0 .1;
+  some-refusal = some-refusal s c r f;
+  refusal-number = f .1 .1;
+}
+
+pub not-unsaid : (s c r : ℕ) → Numbers s c r → Fails (unsaid s c r)
+not-unsaid s c r n = ((n .step-number, n .client-number), ((λ e. omega (arith, n .some-refusal, e)), n .refusal-number))
+
+-- The three ends of a call, each with its answer and the text afterwards.
+data Ends (s c r : ℕ) (text : List ℕ) (a : SentenceAnswer) (after : List ℕ) : Type 0 where
+  short : length text < fewestBytes → a ≡ Refused TextTooShort → after ≡ text → Ends s c r text a after
+  none : fewestBytes ≤ length text → (Numbers s c r → ⊥) → a ≡ Refused NoSentence → after ≡ text → Ends s c r text a after
+  long : fewestBytes ≤ length text → Numbers s c r → a ≡ Length (length (sentence s c r))
+      → after ≡ sentence s c r ++ drop (length (sentence s c r)) text → Ends s c r text a after
+
+module _ (s c r : ℕ) (text : List ℕ) where
+  pub said-answer : fewestBytes ≤ length text → Fails (unsaid s c r) → sentenceAnswer s c r text ≡ Length (length (sentence s c r))
+  unfolding sentenceAnswer
+  said-answer l f = passed-first (sentenceChecks s c r text) Refused (Length (length (sentence s c r))) (l, (f, tt))
+
+  said-text : fewestBytes ≤ length text → Fails (unsaid s c r) → sentenceText s c r text ≡ sentence s c r ++ drop (length (sentence s c r)) text
+  unfolding sentenceText
+  said-text l f = passed-first (sentenceChecks s c r text) (λ _. text) (sentence s c r ++ drop (length (sentence s c r)) text) (l, (f, tt))
+
+  none-ends : fewestBytes ≤ length text → Holds (unsaid s c r) → Ends s c r text (sentenceAnswer s c r text) (sentenceText s c r text)
+  none-ends l h =
+      let e = not-said s c r text l (test (unsaid s c r)) refl (holds-true (unsaid s c r) h) in
+      none l (λ n. clash (unsaid s c r) h (not-unsaid s c r n)) (sym (e .0)) (sym (e .1))
+
+  ends : Ends s c r text (sentenceAnswer s c r text) (sentenceText s c r text)
+  ends = by-test (less (length text) fewestBytes)
+      (λ l. short l (sym (too-short s c r text l .0)) (sym (too-short s c r text l .1)))
+      (λ l. by-test (unsaid s c r) (none-ends l) (λ f. long l (numbers s c r f) (said-answer l f) (said-text l f)))
+
+module _ {s c r : ℕ} {text after : List ℕ} {a : SentenceAnswer} where
+  only-short : Ends s c r text a after → a ≡ Refused TextTooShort → length text < fewestBytes
+  only-short (short l e f) h = l
+  only-short (none l n e f) h = let z : _≡_ {A = ℕ} 0 1 = cc in absurd (omega arith)
+  only-short (long l n e f) h = let z : _≡_ {A = ℕ} 0 1 = cc in absurd (omega arith)
+
+  only-none : Ends s c r text a after → a ≡ Refused NoSentence → (fewestBytes ≤ length text) × (Numbers s c r → ⊥)
+  only-none (short l e f) h = let z : _≡_ {A = ℕ} 0 1 = cc in absurd (omega arith)
+  only-none (none l n e f) h = (l, n)
+  only-none (long l n e f) h = let z : _≡_ {A = ℕ} 0 1 = cc in absurd (omega arith)
+
+  only-long : (n : ℕ) → Ends s c r text a after → a ≡ Length n → (fewestBytes ≤ length text) × (Numbers s c r × (n ≡ length (sentence s c r)))
+  only-long n (short l e f) h = let z : _≡_ {A = ℕ} 0 1 = cc in absurd (omega arith)
+  only-long n (none l m e f) h = let z : _≡_ {A = ℕ} 0 1 = cc in absurd (omega arith)
+  only-long n (long l m e f) h = let q : n ≡ length (sentence s c r) = cc in (l, (m, q))
+
+  to-none : Ends s c r text a after → fewestBytes ≤ length text → (Numbers s c r → ⊥) → a ≡ Refused NoSentence
+  to-none (short k e f) l n = absurd (omega arith)
+  to-none (none k m e f) l n = e
+  to-none (long k m e f) l n = absurd (n m)
+
+  leaves : (q : Refusal) → Ends s c r text a after → a ≡ Refused q → after ≡ text
+  leaves q (short l e f) h = f
+  leaves q (none l n e f) h = f
+  leaves q (long l n e f) h = let z : _≡_ {A = ℕ} 0 1 = cc in absurd (omega arith)
+
+  writes : (n : ℕ) → Ends s c r text a after → a ≡ Length n → (take n after ≡ sentence s c r) × (drop n after ≡ drop n text)
+  writes n (short l e f) h = let z : _≡_ {A = ℕ} 0 1 = cc in absurd (omega arith)
+  writes n (none l m e f) h = let z : _≡_ {A = ℕ} 0 1 = cc in absurd (omega arith)
+  writes n (long l m e f) h =
+      let q : n ≡ length (sentence s c r) = cc in (
+        rw (q, f) (take-append-seam (sentence s c r) (drop (length (sentence s c r)) text)),
+        rw (q, f) (drop-append-seam (sentence s c r) (drop (length (sentence s c r)) text)),
+      )
+
+  keeps-length : Ends s c r text a after → length after ≡ length text
+  keeps-length (short l e f) = ap (length {A = ℕ}) f
+  keeps-length (none l n e f) = ap (length {A = ℕ}) f
+  keeps-length (long l n e f) = omega (
+    arith,
+    ap (length {A = ℕ}) f,
+    length-append (sentence s c r) (drop (length (sentence s c r)) text),
+    length-drop (length (sentence s c r)) text,
+    sentence-length s c r (not-unsaid s c r n),
+  )
+
+alike : (s c r s' c' r' : ℕ) → (s ≡ s') × ((c ≡ c') × (r ≡ r')) → sentence s c r ≡ sentence s' c' r'
+alike s c r s' c' r' e = rw (e .0, e .1 .0, e .1 .1)
+
+formed : (s c r : ℕ) → sentence s c r ≡ stepName s ++ (bytes " of client " ++ (decimal c ++ (bytes ": " ++ reason r)))
+unfolding sentence
+formed s c r = refl
+
+pub says-refusals : SaysRefusals
+says-refusals = record {
+  form = formed;
+  name = name-holds;
+  reason = reason-holds;
+  equal = λ s c r s' c' r' m n. (
+    same-sentence s s' c c' r r' (m .step-number) (n .step-number) (m .some-refusal) (m .refusal-number) (n .some-refusal) (n .refusal-number),
+    alike s c r s' c' r',
+  );
+  fits = λ s c r n. sentence-length s c r (not-unsaid s c r n);
+  short = λ s c r text. (only-short (ends s c r text), λ l. sym (too-short s c r text l .0));
+  none = λ s c r text. (only-none (ends s c r text), λ h. to-none (ends s c r text) (h .0) (h .1));
+  long = λ s c r text n. (
+    only-long n (ends s c r text),
+    λ h. said-answer s c r text (h .0) (not-unsaid s c r (h .1 .0)) ∙ ap Length (sym (h .1 .1)),
+  );
+  refused = λ s c r text q. leaves q (ends s c r text);
+  written = λ s c r text n e. writes n (ends s c r text) e .0;
+  behind = λ s c r text n e. writes n (ends s c r text) e .1;
+  whole = λ s c r text. keeps-length (ends s c r text);
+}

@@ -1,0 +1,45 @@
+//! Refusals in words, as the reference has them. The reasons are read from its text.
+
+use crate::words::{Checked, refuse_if};
+use std::sync::LazyLock;
+
+/// The fewest bytes of a text buffer.
+pub const TEXT_BYTES: usize = 96;
+
+/// The names of the steps, by their numbers.
+pub const STEPS: [&str; 10] =
+    ["name", "become", "abdicate", "fetch", "close last", "finish", "create", "append", "write", "close own"];
+
+/// The largest client that a sentence names.
+pub const LAST_CLIENT: u64 = 255;
+/// The last refusal that has a sentence.
+pub const LAST_REFUSAL: u64 = 28;
+
+const REFERENCE: &str = include_str!("../../../docs/REFERENCE.md");
+
+/// The reasons of the refusals from 1 on: the rows of the reference's table of reasons, each of a number and a reason.
+pub static REASONS: LazyLock<Vec<&str>> = LazyLock::new(|| {
+    let (_, table) = REFERENCE.split_once("\n| Refusal | Reason |\n|---|---|\n").expect("the table of reasons");
+    let rows = table.lines().take_while(|line| line.starts_with('|'));
+    let numbered = rows.map(|line| match line.split('|').map(str::trim).collect::<Vec<_>>()[..] {
+        ["", number, reason, ""] => (number.parse::<u64>().expect(line), reason),
+        _ => panic!("no row of a number and a reason: {line}"),
+    });
+    let (numbers, reasons): (Vec<_>, Vec<_>) = numbered.unzip();
+    assert!(numbers.into_iter().eq(1..=LAST_REFUSAL), "a row for each refusal, in their order");
+    reasons
+});
+
+/// The sentence of a refusal by a client at a step. All three have one.
+pub fn sentence(step: u64, client: u64, refusal: u64) -> String {
+    format!("{} of client {client}: {}", STEPS[step as usize], REASONS[refusal as usize - 1])
+}
+
+/// Writes a sentence to the front of a text buffer of any length: its length, or the refusal's number.
+pub fn write(step: u64, client: u64, refusal: u64, text: &mut [u8]) -> Checked<usize> {
+    refuse_if(text.len() < TEXT_BYTES, 27)?;
+    refuse_if(step >= STEPS.len() as u64 || refusal == 0 || refusal > LAST_REFUSAL || client > LAST_CLIENT, 28)?;
+    let sentence = sentence(step, client, refusal);
+    text[..sentence.len()].copy_from_slice(sentence.as_bytes());
+    Ok(sentence.len())
+}
