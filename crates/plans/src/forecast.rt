@@ -2,6 +2,7 @@
 use crate::run::Run;
 use chain::answer::Verdict;
 use records::layout::STATE_LENGTH;
+use wellformed::LARGE_CAPACITY;
 ghost use mathlib.Core.Path.{_≡_};
 ghost use Prim.Native.Nat.{_≤_};
 ghost use lib.ListN.{length, take};
@@ -9,9 +10,6 @@ ghost use Rattle.chain.specs.Buffers.{head};
 ghost use Rattle.chain.specs.Operations.{buffers, IsLog};
 ghost use Rattle.dispatch.specs.Results.{IsRights};
 ghost use Rattle.plans.specs.Runs.{Counted, Foretells};
-
-// The words of the largest entry buffer.
-const MOST_ENTRIES: usize = 4096;
 
 pub struct Forecast {
     pub entries: u64,
@@ -48,7 +46,7 @@ fn on_a_copy(state: &[u64], entries: &[u64], rights: &[u64], plan: &[u64], end: 
     ensures { λ r. ⌜ Counted (now (rights .entry)) (take end (now (plan .entry))) (buffers (now (state .entry)) (now (entries .entry))) r ⌝ }
 {
     let mut own_state = [0u64; STATE_LENGTH];
-    let mut own_entries = [0u64; MOST_ENTRIES];
+    let mut own_entries = [0u64; LARGE_CAPACITY];
     let capacity = entries.len();
     run_copied(
         &mut own_state,
