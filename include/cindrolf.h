@@ -32,9 +32,11 @@ extern "C" {
 /* The number of the interface that the archive has. Compare it with CINDROLF_VERSION before the first call. */
 uint64_t cindrolf_version(void);
 
-/* The lengths of the two buffers, in words. */
+/* The lengths of the two buffers, in words. The entry buffer of a small cartridge has CINDROLF_SMALL_ENTRY_WORDS. Every function takes
+ * either; a log has as many entries at most as its entry buffer has words. */
 #define CINDROLF_STATE_WORDS 527
 #define CINDROLF_ENTRY_WORDS 4096
+#define CINDROLF_SMALL_ENTRY_WORDS 512
 
 /* The length of the marks buffer, in words, and the most marks that it keeps. */
 #define CINDROLF_MARK_WORDS 64
@@ -102,7 +104,7 @@ static inline uint64_t cindrolf_answer_place(uint64_t answer) { return answer & 
 #define CINDROLF_REFUSAL_NO_LEDGER_NUMBER UINT64_C(10) /* no ledger number is left: all 255 are created */
 #define CINDROLF_REFUSAL_VALUE_TOO_WIDE UINT64_C(11)   /* the value has more than fifty two bits: it is 2^52 or more */
 #define CINDROLF_REFUSAL_LEDGER_FENCED UINT64_C(12)    /* another leader has fenced the ledger */
-#define CINDROLF_REFUSAL_LOG_FULL UINT64_C(13)         /* the log is full: it has 4096 entries */
+#define CINDROLF_REFUSAL_LOG_FULL UINT64_C(13)         /* the log is full: it has as many entries as the entry buffer has words */
 #define CINDROLF_REFUSAL_LEDGER_EMPTY UINT64_C(14)     /* the ledger has no entry: withdrawn, no operation gives it */
 #define CINDROLF_REFUSAL_NOT_LISTED UINT64_C(15)       /* the ledger is not in the list */
 #define CINDROLF_REFUSAL_OUTPUT_TOO_SHORT UINT64_C(16) /* the output buffer is shorter than the reading */
@@ -278,8 +280,8 @@ struct cindrolf_chain_count {
 };
 
 /* Writes the entries of all listed ledgers, in the order of the list, to the front of the output buffer, each without its ledger number;
- * the words after them stay. Done, or refusal 1, 2 or 16, which changes nothing. CINDROLF_ENTRY_WORDS words of output are enough for
- * every log that began with cindrolf_fresh. */
+ * the words after them stay. Done, or refusal 1, 2 or 16, which changes nothing. As many words of output as the entry buffer has are enough
+ * for every log that began with cindrolf_fresh. */
 struct cindrolf_chain_count cindrolf_read_chain(const uint64_t *state, size_t state_length, const uint64_t *entries, size_t entries_length,
                                                 uint64_t *output, size_t output_length);
 
@@ -321,7 +323,7 @@ uint64_t cindrolf_mark_drop(const uint64_t *state, size_t state_length, const ui
 
 /* Writes the log's entries up to a mark to the front of the output buffer, in the order of their numbers, each without its ledger number;
  * the words after them stay. Done, or refusal 23 or 16. At a mark that was set on this log since its cindrolf_fresh, it is what
- * cindrolf_read_chain gave then, whatever steps came after. CINDROLF_ENTRY_WORDS words of output are enough for every mark. */
+ * cindrolf_read_chain gave then, whatever steps came after. As many words of output as the entry buffer has are enough for every mark. */
 struct cindrolf_chain_count cindrolf_mark_read(const uint64_t *state, size_t state_length, const uint64_t *entries, size_t entries_length,
                                                const uint64_t *marks, size_t marks_length, uint64_t name, uint64_t *output,
                                                size_t output_length);

@@ -1,6 +1,6 @@
 /* The version of the library, null pointers with length 0, which every function takes for an empty buffer, an empty ledger that
  * its leader closes, the limits of lent scores, wide values, the numbers and places that writes answer, those of advised steps,
- * marks, rights, plans, words that are rearranged, and refusals in words. It compiles as C and as C++. */
+ * marks, rights, plans, words that are rearranged, refusals in words, and a log of 512 entry words. It compiles as C and as C++. */
 #include "cindrolf.h"
 
 #include <inttypes.h>
@@ -84,7 +84,7 @@ static void refuse_marks(const uint64_t *s, size_t s_length, const uint64_t *e, 
     expect("read at a mark, no output", cindrolf_mark_read(s, s_length, e, e_length, m, m_length, 1, NULL, 0).answer, WRONG_LENGTH);
 }
 
-/* Every operation refuses these buffers, of which at least one is empty. */
+/* Every operation refuses these buffers, of which at least one is empty or has another wrong length. */
 static void refuse(uint64_t *s, size_t s_length, uint64_t *e, size_t e_length) {
     uint64_t word = 7;
     for (size_t i = 0; i < sizeof operations / sizeof operations[0]; i++)
@@ -815,6 +815,90 @@ static void check_sentences(void) {
     refuse_sentence(0, 0, far + 1, text, CINDROLF_TEXT_BYTES, none);
 }
 
+/* What the functions on a log of 512 entry words say, in the front of the buffer for 4,096. */
+#define SMALL entries, CINDROLF_SMALL_ENTRY_WORDS
+
+static void expect_not_a_log(const char *what, size_t entry_words) {
+    const uint64_t answer = CINDROLF_REFUSED + CINDROLF_REFUSAL_NOT_WELL_FORMED;
+    expect(what, cindrolf_well_formed(state, CINDROLF_STATE_WORDS, entries, entry_words), false);
+    expect(what, cindrolf_write(state, CINDROLF_STATE_WORDS, entries, entry_words, 0, 1), answer);
+    expect(what, cindrolf_advise(state, CINDROLF_STATE_WORDS, entries, entry_words, 0), answer);
+    expect(what, cindrolf_read_ledger(state, CINDROLF_STATE_WORDS, entries, entry_words, 1).answer, answer);
+    expect(what, cindrolf_read_chain(state, CINDROLF_STATE_WORDS, entries, entry_words, NULL, 0).answer, answer);
+    expect(what, cindrolf_first_window(state, CINDROLF_STATE_WORDS, entries, entry_words, 1, 0).answer, answer);
+    expect(what, cindrolf_mark_set(state, CINDROLF_STATE_WORDS, entries, entry_words, marks, CINDROLF_MARK_WORDS, WASH), answer);
+    refuse_steps(state, CINDROLF_STATE_WORDS, entries, entry_words, rights, CINDROLF_RIGHTS_WORDS, answer);
+}
+
+/* Fresh, on 512 words that are the front of more: those behind them stay 9. Every length beside the two is refused. */
+static void check_small_lengths(void) {
+    const size_t wrong_lengths[] = {0, 1, 511, 513, 4095};
+    for (size_t i = 0; i < CINDROLF_ENTRY_WORDS; i++)
+        entries[i] = 9;
+    expect("fresh on 512 words", cindrolf_fresh(state, CINDROLF_STATE_WORDS, SMALL, 2), CINDROLF_DONE);
+    for (size_t i = 0; i < CINDROLF_ENTRY_WORDS; i++)
+        expect("an entry word after fresh", entries[i], i < 512 ? 0 : 9);
+    expect("well formed with 512", cindrolf_well_formed(state, CINDROLF_STATE_WORDS, SMALL), true);
+    for (size_t i = 0; i < sizeof wrong_lengths / sizeof wrong_lengths[0]; i++)
+        refuse(state, CINDROLF_STATE_WORDS, entries, wrong_lengths[i]);
+    expect_not_a_log("4,096 words with stray ones", CINDROLF_ENTRY_WORDS);
+}
+
+static void check_small_readings(void) {
+    static uint64_t output[513];
+    output[512] = 9;
+    struct cindrolf_ledger_part part = cindrolf_read_ledger(state, CINDROLF_STATE_WORDS, SMALL, 1);
+    expect("read the ledger of 512", part.answer, CINDROLF_DONE);
+    expect("its start", part.start, 0);
+    expect("its words", part.count, 512);
+    expect("511 words of output", cindrolf_read_chain(state, CINDROLF_STATE_WORDS, SMALL, output, 511).answer, CINDROLF_REFUSED + 16);
+    expect("512 words of output", cindrolf_read_chain(state, CINDROLF_STATE_WORDS, SMALL, output, 513).count, 512);
+    for (uint64_t i = 0; i < 512; i++)
+        expect("a word of the reading", output[i], 1000 + i);
+    expect("the word behind it", output[512], 9);
+    struct cindrolf_window_found window = cindrolf_first_window(state, CINDROLF_STATE_WORDS, SMALL, 2, 1510 + 1511 - 1);
+    expect("the last window is found", window.found, 1);
+    expect("its start", window.start, 510);
+    memset(marks, 0, sizeof marks);
+    expect("a mark at 512", cindrolf_mark_set(state, CINDROLF_STATE_WORDS, SMALL, marks, CINDROLF_MARK_WORDS, WASH), CINDROLF_DONE);
+    expect("its word", marks[1], UINT64_C(512) << 51);
+    expect("read at it", cindrolf_mark_read(state, CINDROLF_STATE_WORDS, SMALL, marks, CINDROLF_MARK_WORDS, WASH, output, 512).count, 512);
+    marks[1] = UINT64_C(513) << 51;
+    expect("a mark at 513", cindrolf_mark_drop(state, CINDROLF_STATE_WORDS, SMALL, marks, CINDROLF_MARK_WORDS, WASH),
+           CINDROLF_REFUSED + CINDROLF_REFUSAL_NOT_WELL_FORMED);
+}
+
+/* Full at 512 entries. A count above that is none of 512 words, and one of 4,096 where the words are there. */
+static void check_small(void) {
+    const uint64_t full = CINDROLF_REFUSED + CINDROLF_REFUSAL_LOG_FULL;
+    operation *lead[] = {cindrolf_become, cindrolf_fetch, cindrolf_create, cindrolf_append};
+    check_small_lengths();
+    for (size_t i = 0; i < sizeof lead / sizeof lead[0]; i++)
+        expect("a step to the lead", lead[i](state, CINDROLF_STATE_WORDS, SMALL, 0), CINDROLF_DONE);
+    for (uint64_t number = 0; number < 512; number++)
+        expect_written("a write", cindrolf_write(state, CINDROLF_STATE_WORDS, SMALL, 0, 1000 + number), number, number);
+    scores[0] = 0;
+    lend_without(0);
+    expect("the 513th write", cindrolf_write(state, CINDROLF_STATE_WORDS, SMALL, 0, 1), full);
+    expect("the 513th write, of scores", cindrolf_write_scores(state, CINDROLF_STATE_WORDS, SMALL, 0, scores, 1), full);
+    expect("the 513th write, with rights",
+           cindrolf_write_with(state, CINDROLF_STATE_WORDS, SMALL, rights, CINDROLF_RIGHTS_WORDS, 0, 1), full);
+    expect("the count", state[0] >> 51, 512);
+    expect("the last entry", entries[511], UINT64_C(0x01000000000005E7));
+    for (size_t i = 512; i < CINDROLF_ENTRY_WORDS; i++)
+        expect("a word behind them", entries[i], 9);
+    check_small_readings();
+    memset(&entries[512], 0, (CINDROLF_ENTRY_WORDS - 512) * sizeof entries[0]);
+    expect_written("the 513th write on 4,096 words",
+                   cindrolf_write(state, CINDROLF_STATE_WORDS, entries, CINDROLF_ENTRY_WORDS, 0, 1), 512, 512);
+    expect("513 entries of 4,096", cindrolf_well_formed(state, CINDROLF_STATE_WORDS, entries, CINDROLF_ENTRY_WORDS), true);
+    expect_not_a_log("513 entries of 512", CINDROLF_SMALL_ENTRY_WORDS);
+    state[0] += (UINT64_C(4096) - 513) << 51;
+    expect_not_a_log("4,096 entries of 512", CINDROLF_SMALL_ENTRY_WORDS);
+    expect("fresh on a small log that is none", cindrolf_fresh(state, CINDROLF_STATE_WORDS, SMALL, 2), CINDROLF_DONE);
+    expect("the word that fresh leaves", entries[512], UINT64_C(0x0100000000000001));
+}
+
 int main(void) {
     expect("version", cindrolf_version(), CINDROLF_VERSION);
 
@@ -852,5 +936,6 @@ int main(void) {
     check_plans();
     check_rearranged();
     check_sentences();
+    check_small();
     return wrong;
 }

@@ -103,8 +103,8 @@ macro_rules! refusals {
 }
 
 refusals! {
-    /// The state buffer hasn't 527 words, the entry buffer hasn't 4,096, the marks buffer hasn't 64, or the rights buffer
-    /// hasn't 16.
+    /// The state buffer hasn't 527 words, the entry buffer hasn't 512 or 4,096, the marks buffer hasn't 64, or the rights
+    /// buffer hasn't 16.
     WrongLength = 1, "a buffer has the wrong length";
     /// The buffers hold no log, or the marks or the rights are none of this log.
     NotWellFormed = 2, "a buffer is not well formed";
@@ -128,7 +128,7 @@ refusals! {
     ValueTooWide = 11, "the value has more than fifty two bits";
     /// Another leader has fenced the client's ledger.
     LedgerFenced = 12, "another leader has fenced the ledger";
-    /// All 4,096 entries are in use.
+    /// There are as many entries as the entry buffer has words: 512 or 4,096.
     LogFull = 13, "the log is full";
     /// Withdrawn: no operation gives it, and its number stays taken. An empty ledger is closed as any other.
     LedgerEmpty = 14, "the ledger has no entry";
@@ -216,7 +216,7 @@ mod tests {
         let missing = Error::from(Refusal::MissingRight).to_string();
         assert_eq!(missing, "the client lacks the right to this step (refusal 24)");
         let unknown = Error::from(Refusal::UnknownStep).to_string();
-        assert_eq!(unknown, "the step word names no step (refusal 25)");
+        assert_eq!(unknown, "the step number is above nine (refusal 25)");
         let other = Error::OtherVersion(1).to_string();
         assert_eq!(other, "the library has version 1, and the crate is written for version 3");
         assert!(Error::UnknownAnswer(300).to_string().starts_with("the library answered 300, "));

@@ -3,6 +3,7 @@
 //! A log lives in two buffers of 64-bit words, [`STATE_WORDS`] of state and [`ENTRY_WORDS`] of entries. A [`Log`] owns
 //! them; a [`LogMut`] or a [`LogRef`] borrows them from wherever they are kept; the functions of [`calls`] take plain
 //! slices. All of them answer buffers of any length and content, and any number. A [`Refusal`] changes nothing.
+//! The entry buffer of a small cartridge has [`SMALL_ENTRY_WORDS`]: a [`Capacity`] says which of the two.
 //!
 //! Persist both buffers together after every step that isn't refused. A [`View`] says what a log holds: the named
 //! leader, where each client stands, the list and its ledgers.
@@ -126,6 +127,27 @@
 //! # Ok::<(), Error>(())
 //! ```
 //!
+//! On a small cartridge a log has 512 entry words, and takes 512 entries. All else is as on the other:
+//!
+//! ```
+//! use cindrolf::{Capacity, Error, Log, Refusal};
+//!
+//! let mut log = Log::fresh_with(1, Capacity::Small)?;
+//! log.become_leader(0)?;
+//! log.fetch(0)?;
+//! log.create(0)?;
+//! let _ = log.append(0)?;
+//! for value in 0..512 {
+//!     log.write(0, value)?;
+//! }
+//! assert_eq!(log.write(0, 512), Err(Error::Refused(Refusal::LogFull)));
+//!
+//! // The words say which it is.
+//! let log = Log::from_words(log.state(), log.entries())?;
+//! assert_eq!(log.capacity(), Capacity::Small);
+//! # Ok::<(), Error>(())
+//! ```
+//!
 //! Steps may be taken under [`Rights`], which say for each client which steps it may take. They are lent with each step
 //! and kept by the caller; without any, each client may take every step.
 //!
@@ -188,6 +210,7 @@
 
 mod answer;
 pub mod calls;
+mod capacity;
 mod error;
 mod log;
 mod mark;
@@ -200,6 +223,7 @@ mod version;
 mod view;
 
 pub use answer::{Advice, CloseLast, EntryNumber, Finish, LedgerNumber, LedgerPlace, Position, Progress, ReadingPlace};
+pub use capacity::Capacity;
 pub use error::{Error, Refusal};
 pub use log::{Log, LogMut, LogRef, PermittedLog};
 pub use mark::MarkName;
@@ -213,6 +237,8 @@ pub use view::{Client, Entry, Ledger, ListPlace, Remembered, Stage, View};
 pub const STATE_WORDS: usize = 527;
 /// Words in an entry buffer.
 pub const ENTRY_WORDS: usize = 4096;
+/// Words in the entry buffer of a small cartridge.
+pub const SMALL_ENTRY_WORDS: usize = 512;
 /// The most clients that a log serves.
 pub const MAX_CLIENTS: u64 = 16;
 /// The largest value that an entry holds.

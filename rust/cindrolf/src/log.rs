@@ -1,7 +1,7 @@
 //! A log that owns its buffers, and logs that borrow them.
 
 use crate::{
-    Advice, CloseLast, ENTRY_WORDS, Error, Finish, Forecast, LedgerNumber, MarkName, Position, Progress, ReadingPlace,
+    Advice, Capacity, CloseLast, Error, Finish, Forecast, LedgerNumber, MarkName, Position, Progress, ReadingPlace,
     Refusal, Rights, STATE_WORDS, StepWord, View, calls, check_version,
 };
 
@@ -106,15 +106,20 @@ pub struct PermittedLog<'a> {
 }
 
 impl Log {
-    /// An empty log for 1 to 16 clients, of which client 0 is the named leader.
+    /// An empty log for 1 to 16 clients, of which client 0 is the named leader, with room for 4,096 entries.
     pub fn fresh(client_count: u64) -> Result<Log, Error> {
+        Log::fresh_with(client_count, Capacity::Large)
+    }
+
+    /// As [`fresh`](Log::fresh), with room for this many entries.
+    pub fn fresh_with(client_count: u64, capacity: Capacity) -> Result<Log, Error> {
         check_version()?;
-        let mut log = Log { state: vec![0; STATE_WORDS].into(), entries: vec![0; ENTRY_WORDS].into() };
+        let mut log = Log { state: vec![0; STATE_WORDS].into(), entries: vec![0; capacity.words()].into() };
         calls::fresh(&mut log.state, &mut log.entries, client_count)?;
         Ok(log)
     }
 
-    /// A log that was persisted. It is refused where the words hold none.
+    /// A log that was persisted, of either capacity. It is refused where the words hold none.
     pub fn from_words(state: &[u64], entries: &[u64]) -> Result<Log, Error> {
         check_version()?;
         LogRef::new(state, entries).view()?;
@@ -124,6 +129,11 @@ impl Log {
     /// What the log holds.
     pub fn view(&self) -> View<'_> {
         View::new(&self.state, &self.entries)
+    }
+
+    /// How many entries the log takes.
+    pub fn capacity(&self) -> Capacity {
+        self.view().capacity()
     }
 
     /// The log, borrowed to be read.
@@ -182,7 +192,7 @@ impl<'a> LogRef<'a> {
 
     /// What the log holds. It is refused where the buffers hold none.
     pub fn view(&self) -> Result<View<'a>, Error> {
-        if self.state.len() != STATE_WORDS || self.entries.len() != ENTRY_WORDS {
+        if self.state.len() != STATE_WORDS || Capacity::from_words(self.entries.len()).is_none() {
             return Err(Refusal::WrongLength.into());
         }
         if !self.well_formed() {
@@ -208,7 +218,7 @@ impl<'a> LogRef<'a> {
     }
 
     /// Writes the entries of all listed ledgers to the front of the output, each without its ledger number, and answers
-    /// how many they are. [`ENTRY_WORDS`] words are enough for every log that began fresh.
+    /// how many they are. As many words as the entry buffer has are enough for every log that began fresh.
     pub fn read_chain(&self, output: &mut [u64]) -> Result<usize, Error> {
         calls::read_chain(self.state, self.entries, output)
     }
@@ -248,7 +258,8 @@ impl<'a> LogRef<'a> {
 
     /// Writes the entries up to the mark of this name to the front of the output, each without its ledger number, and
     /// answers how many they are. At a mark that was set on this log since it began fresh, this is what
-    /// [`read_chain`](Self::read_chain) gave then, whatever steps came after. [`ENTRY_WORDS`] words are enough.
+    /// [`read_chain`](Self::read_chain) gave then, whatever steps came after. As many words as the entry
+    /// buffer has are enough.
     pub fn read_mark(&self, marks: &[u64], name: MarkName, output: &mut [u64]) -> Result<usize, Error> {
         calls::read_mark(self.state, self.entries, marks, name, output)
     }

@@ -1,8 +1,8 @@
 //! The reference's examples through the crate, on the proved library.
 
 use cindrolf::{
-    CloseLast, ENTRY_WORDS, EntryNumber, Error, Finish, Forecast, LedgerNumber, LedgerPlace, Log, LogMut, LogRef,
-    MarkName, Position, Progress,
+    Capacity, CloseLast, ENTRY_WORDS, EntryNumber, Error, Finish, Forecast, LedgerNumber, LedgerPlace, Log, LogMut,
+    LogRef, MarkName, Position, Progress,
 };
 use cindrolf::{
     HIGHEST_SCORE, MARK_WORDS, MARKS_LIMIT, RIGHTS_WORDS, Refusal, Right, Rights, SCORES_LIMIT, STATE_WORDS, Stage,
@@ -120,6 +120,57 @@ fn full() {
     assert_eq!(log.read_chain(&mut output[1..]), refused(Refusal::OutputTooShort));
     assert_eq!(output, [0; ENTRY_WORDS]);
     assert_eq!(log.read_chain(&mut output), Ok(ENTRY_WORDS));
+}
+
+// A log of 512 entry words is full at 512, and has no use for the words of a longer output.
+#[test]
+fn small() {
+    let mut log = Log::fresh_with(2, Capacity::Small).unwrap();
+    assert_eq!((log.state().len(), log.entries().len()), (527, 512));
+    assert_eq!(log.become_leader(0), Ok(()));
+    assert_eq!(log.fetch(0), Ok(()));
+    assert_eq!(log.create(0), Ok(()));
+    assert_eq!(log.append(0), Ok(Progress::Done));
+    for entry in 0..512 {
+        assert_eq!(log.write(0, entry), at(entry, entry));
+    }
+    let before = log.clone();
+    assert_eq!(log.write(0, 0), refused(Refusal::LogFull));
+    assert_eq!(log.write_scores(0, &[40]), refused(Refusal::LogFull));
+    assert_eq!(log, before);
+    let (mut marks, mut output) = ([0; MARK_WORDS], [u64::MAX; 513]);
+    assert_eq!(log.set_mark(&mut marks, mark("full")), Ok(()));
+    assert_eq!(marks[1], 512 << 51);
+    assert_eq!(log.read_mark(&marks, mark("full"), &mut output[..511]), refused(Refusal::OutputTooShort));
+    assert_eq!(log.read_mark(&marks, mark("full"), &mut output), Ok(512));
+    assert_eq!(log.read_chain(&mut output[..512]), Ok(512));
+    assert!(output[..512].iter().copied().eq(0..512) && output[512] == u64::MAX);
+    marks[1] = 513 << 51;
+    assert_eq!(log.drop_mark(&mut marks, mark("full")), refused(Refusal::NotWellFormed));
+    assert_eq!(Log::from_words(log.state(), log.entries()).map(|log| log.capacity()), Ok(Capacity::Small));
+}
+
+// The same words are a log of either capacity as long as the count fits.
+#[test]
+fn capacities() {
+    assert_eq!((Capacity::Small.words(), Capacity::Large.words()), (512, 4096));
+    for words in [0, 511, 513, 4095, 4097] {
+        assert_eq!(Capacity::from_words(words), None);
+        let (mut state, mut entries) = (vec![0; STATE_WORDS], vec![0; words]);
+        assert_eq!(calls::fresh(&mut state, &mut entries, 1), refused(Refusal::WrongLength));
+        assert_eq!(LogRef::new(&state, &entries).view().map(|_| ()), refused(Refusal::WrongLength));
+    }
+    assert_eq!(Log::fresh(1).unwrap().capacity(), Capacity::Large);
+    assert_eq!(Log::fresh_with(17, Capacity::Small), refused(Refusal::ClientCount));
+    let mut log = writing(1);
+    for entry in 0..512 {
+        log.write(0, entry).unwrap();
+    }
+    let small = Log::from_words(log.state(), &log.entries()[..512]).unwrap();
+    assert_eq!(small.capacity(), Capacity::Small);
+    log.write(0, 512).unwrap();
+    assert!(log.well_formed());
+    assert_eq!(Log::from_words(log.state(), &log.entries()[..512]), refused(Refusal::NotWellFormed));
 }
 
 // Numbers go on over the whole log, and places begin anew in each ledger.

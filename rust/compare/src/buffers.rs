@@ -7,7 +7,9 @@ use crate::rights::any_rights;
 use crate::shrink;
 use crate::sides::Sides;
 use model::histories::{any_client, with_any_input};
-use model::layout::{Client, ENTRY_WORDS, Entry, Head, Ledger, NONE, Place, STATE_WORDS, client_index};
+use model::layout::{
+    Client, ENTRY_WORDS, Entry, Head, Ledger, NONE, Place, SMALL_ENTRY_WORDS, STATE_WORDS, client_index,
+};
 use model::plans::parts;
 use model::random::Random;
 use model::{Step, words};
@@ -182,17 +184,25 @@ fn reading_length(buffers: &Buffers) -> usize {
 /// Buffers of any kind, mostly well formed or nearly so.
 pub fn any_buffers(random: &mut Random) -> Buffers {
     let mut buffers = if random.chance(97) { well_formed(random) } else { random_words(random) };
-    match random.below(10) {
+    match random.below(11) {
         0..=4 => {}
         5..=8 => damage(random, &mut buffers),
-        _ => wrong_length(random, &mut buffers),
+        9 => wrong_length(random, &mut buffers),
+        _ => buffers.entries.resize(random.pick(&ENTRY_LENGTHS), 0),
     }
     buffers
 }
 
+/// Both capacities and the lengths beside them. What is cut off may be in use, so that the count is too great for the buffer.
+const ENTRY_LENGTHS: [usize; 6] = [511, 512, 513, 4095, 4096, 4097];
+
+fn any_capacity(random: &mut Random) -> usize {
+    random.pick(&[SMALL_ENTRY_WORDS, ENTRY_WORDS])
+}
+
 fn random_words(random: &mut Random) -> Buffers {
     let state = (0..STATE_WORDS).map(|_| random.word()).collect();
-    let entries = (0..ENTRY_WORDS).map(|_| random.word()).collect();
+    let entries = (0..any_capacity(random)).map(|_| random.word()).collect();
     Buffers { state, entries, ..Buffers::default() }
 }
 
@@ -207,7 +217,7 @@ fn wrong_length(random: &mut Random, buffers: &mut Buffers) {
     };
     let filler = random.pick(&[0, 0, u64::MAX]);
     buffers.state.resize(length(random, STATE_WORDS), filler);
-    buffers.entries.resize(length(random, ENTRY_WORDS), filler);
+    buffers.entries.resize(length(random, buffers.entries.len()), filler);
 }
 
 /// One to three changes of words, most of them in use or just behind those in use.
@@ -226,7 +236,7 @@ fn damage(random: &mut Random, buffers: &mut Buffers) {
         if let Some(word) = buffers.state.get_mut(index) {
             damage_word(random, word);
         } else {
-            let index = (random.below(head.entry_count + 2) as usize).min(ENTRY_WORDS - 1);
+            let index = (random.below(head.entry_count + 2) as usize).min(buffers.entries.len() - 1);
             damage_word(random, &mut buffers.entries[index]);
         }
     }
@@ -258,14 +268,15 @@ pub fn well_formed(random: &mut Random) -> Buffers {
     let next_ledger = 1 + any_size(random, 255);
     let some = |size: u64| if next_ledger == 1 { 0 } else { size };
     let client_count = random.between(1, 16);
+    let capacity = any_capacity(random);
     let head = Head {
-        entry_count: some(any_size(random, ENTRY_WORDS as u64)),
+        entry_count: some(any_size(random, capacity as u64)),
         next_ledger,
         list_length: some(any_size(random, 255)),
         leader: random.below(client_count),
         client_count,
     };
-    let (mut state, mut entries) = (vec![0; STATE_WORDS], vec![0; ENTRY_WORDS]);
+    let (mut state, mut entries) = (vec![0; STATE_WORDS], vec![0; capacity]);
     state[0] = head.word();
     for word in &mut state[1..=client_count as usize] {
         *word = any_client_word(random, &head);

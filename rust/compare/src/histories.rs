@@ -7,7 +7,7 @@ use crate::rights::any_rights;
 use crate::shrink::{shorten, takes_plan, with_fewer_scores};
 use crate::sides::Sides;
 use model::histories::{Profile, any_client};
-use model::layout::{ENTRY_WORDS, STATE_WORDS};
+use model::layout::{ENTRY_WORDS, SMALL_ENTRY_WORDS, STATE_WORDS};
 use model::marks::{LIMIT, MARK_WORDS};
 use model::plans::{Counts, parts, within};
 use model::random::Random;
@@ -36,6 +36,7 @@ struct Turn {
 /// A fresh log and what comes after it.
 struct History {
     client_count: u64,
+    capacity: usize,
     turns: Vec<Turn>,
 }
 
@@ -51,9 +52,11 @@ struct Run<'a> {
 /// Compares one history. The error is a report with the shortest history found.
 pub fn compare(subject: Subject, sides: &mut Sides, random: &mut Random) -> Result<(), String> {
     let profile = random.pick(&Profile::ALL);
-    let mut history = History { client_count: random.between(1, 16), turns: vec![] };
+    let capacity = random.pick(&[SMALL_ENTRY_WORDS, ENTRY_WORDS]);
+    let mut history = History { client_count: random.between(1, 16), capacity, turns: vec![] };
     let length = if random.chance(20) { LONGEST } else { random.between(1, 600) };
-    let mut run = Run::start(sides, history.client_count).map_err(|text| report(subject, &history, text))?;
+    let run = Run::start(sides, history.client_count, capacity);
+    let mut run = run.map_err(|text| report(subject, &history, text))?;
     for _ in 0..length {
         for turn in next_turns(random, &profile, &run.source) {
             history.turns.push(turn.clone());
@@ -113,12 +116,12 @@ fn any_mark_call(random: &mut Random) -> Call {
 }
 
 impl<'a> Run<'a> {
-    fn start(sides: &'a mut Sides, client_count: u64) -> Result<Self, String> {
-        let output = (0..ENTRY_WORDS as u64).map(|index| !index).collect();
-        let (state, entries) = (vec![u64::MAX; STATE_WORDS], vec![5; ENTRY_WORDS]);
+    fn start(sides: &'a mut Sides, client_count: u64, capacity: usize) -> Result<Self, String> {
+        let output = (0..capacity as u64).map(|index| !index).collect();
+        let (state, entries) = (vec![u64::MAX; STATE_WORDS], vec![5; capacity]);
         sides.set(&Buffers { state, entries, marks: vec![0; MARK_WORDS], output, ..Buffers::default() });
         sides.call(Call::Fresh(client_count)).map_err(|difference| difference.to_string())?;
-        Ok(Run { sides, source: Source::init(client_count), marks: vec![], at_limit: 0 })
+        Ok(Run { sides, source: Source::init_with(client_count, capacity), marks: vec![], at_limit: 0 })
     }
 
     fn take(&mut self, turn: &Turn) -> Result<(), String> {
@@ -267,9 +270,9 @@ fn first_over(reading: &[u64], length: usize, limit: u64) -> Option<usize> {
 }
 
 /// What a history shows, if it fails.
-fn failure(subject: Subject, client_count: u64, turns: &[Turn]) -> Option<String> {
+fn failure(subject: Subject, client_count: u64, capacity: usize, turns: &[Turn]) -> Option<String> {
     let mut sides = Sides::new(subject);
-    let mut run = match Run::start(&mut sides, client_count) {
+    let mut run = match Run::start(&mut sides, client_count, capacity) {
         Ok(run) => run,
         Err(text) => return Some(text),
     };
@@ -305,7 +308,8 @@ fn with_plainer_rights(mut turn: Turn, all: Vec<u64>, fails: impl Fn(Turn) -> bo
 }
 
 fn report(subject: Subject, history: &History, text: String) -> String {
-    let fails = |turns: &[Turn]| failure(subject, history.client_count, turns).is_some();
+    let capacity = history.capacity;
+    let fails = |turns: &[Turn]| failure(subject, history.client_count, capacity, turns).is_some();
     let mut turns = shorten(&history.turns, fails);
     for index in 0..turns.len() {
         let fails_with = |turn: Turn| fails(&[&turns[..index], &[turn], &turns[index + 1..]].concat());
@@ -314,10 +318,11 @@ fn report(subject: Subject, history: &History, text: String) -> String {
         turn.plan = shorten(&turn.plan, |plan| fails_with(Turn { plan: plan.to_vec(), ..turn.clone() }));
         turns[index] = with_plainer_rights(turn, rights::all(history.client_count), fails_with);
     }
-    let fewest = (1..history.client_count).find(|&count| failure(subject, count, &turns).is_some());
+    let fewest = (1..history.client_count).find(|&count| failure(subject, count, capacity, &turns).is_some());
     let client_count = fewest.unwrap_or(history.client_count);
-    let text = failure(subject, client_count, &turns).unwrap_or(text);
-    let mut report = format!("{text}The shortest history found that shows it:\n  Fresh({client_count})\n");
+    let text = failure(subject, client_count, capacity, &turns).unwrap_or(text);
+    let start = format!("Fresh({client_count}) on {capacity} entry words");
+    let mut report = format!("{text}The shortest history found that shows it:\n  {start}\n");
     for Turn { call, rights, plan } in turns {
         let _ = match call {
             Call::StepWith(..) => writeln!(report, "  {call} under {}", describe(&rights)),

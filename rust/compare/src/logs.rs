@@ -1,7 +1,7 @@
 //! The logs whose every single-bit change is tried.
 
 use crate::call::{Buffers, Call};
-use model::layout::{ENTRY_WORDS, Head, STATE_WORDS};
+use model::layout::{ENTRY_WORDS, Head, SMALL_ENTRY_WORDS, STATE_WORDS};
 use model::marks::{self, LIMIT, MARK_WORDS, Mark};
 use model::{Answer, Step, rights, words};
 
@@ -17,7 +17,11 @@ pub struct Named {
 
 /// A fresh log of so many clients, with no mark and with all rights.
 pub fn fresh(client_count: u64) -> Buffers {
-    let (mut state, mut entries) = (vec![0; STATE_WORDS], vec![0; ENTRY_WORDS]);
+    fresh_with(client_count, ENTRY_WORDS)
+}
+
+fn fresh_with(client_count: u64, capacity: usize) -> Buffers {
+    let (mut state, mut entries) = (vec![0; STATE_WORDS], vec![0; capacity]);
     assert_eq!(words::fresh(&mut state, &mut entries, client_count), Answer::Done);
     let (marks, rights) = (vec![0; MARK_WORDS], rights::all(client_count));
     Buffers { state, entries, marks, rights, ..Buffers::default() }
@@ -56,7 +60,10 @@ fn handover() -> Buffers {
 
 /// A log of this many ledgers, each but the last closed by its owner, with this many entries spread over them.
 pub fn chain(client_count: u64, ledgers: u64, entries: u64) -> Buffers {
-    let mut log = fresh(client_count);
+    chain_from(fresh(client_count), ledgers, entries)
+}
+
+fn chain_from(mut log: Buffers, ledgers: u64, entries: u64) -> Buffers {
     take(&mut log, 0, &[Step::Become, Step::Fetch]);
     let mut written = 0;
     for ledger in 1..=ledgers {
@@ -72,13 +79,16 @@ pub fn chain(client_count: u64, ledgers: u64, entries: u64) -> Buffers {
     log
 }
 
-/// Fresh, one ledger, mid-handover and full; with no mark, one, three and as many as there may be, and with all rights.
+/// Fresh, one ledger, mid-handover and full; with no mark, one, three and as many as there may be, and with all rights. Then one that is
+/// full with 512 entries.
 pub fn all() -> Vec<Named> {
     let full = chain(16, 255, ENTRY_WORDS as u64);
+    let small = chain_from(fresh_with(2, SMALL_ENTRY_WORDS), 3, SMALL_ENTRY_WORDS as u64);
     vec![
         Named { name: "fresh", buffers: fresh(3), step: Call::Step(0, Step::Become) },
         Named { name: "one ledger", buffers: marked(one_ledger(), 1), step: Call::Step(0, Step::Write(9)) },
         Named { name: "mid-handover", buffers: marked(handover(), 3), step: Call::Step(1, Step::CloseLast) },
         Named { name: "full", buffers: marked(full, LIMIT as u64), step: Call::Step(0, Step::CloseOwn) },
+        Named { name: "small and full", buffers: marked(small, 2), step: Call::Step(0, Step::CloseOwn) },
     ]
 }

@@ -14,7 +14,7 @@ Compares the proved library with the model: every call on both, then the answers
   --calls N   how many random calls, half of them in histories from fresh logs, half on buffers of any kind
               (default 1000000); and a hundredth as many that rearrange or restore words, and an eighth as many
               for refusals in words
-  --no-sweep  without every single-bit change of four logs, of their marks and of their rights
+  --no-sweep  without every single-bit change of five logs, of their marks and of their rights
   --help      this text
 
 A difference is printed with the smallest case found that shows it, and the exit status is 1.";

@@ -3,7 +3,7 @@
 use crate::call::{Buffers, Call, Subject};
 use crate::sides::{Difference, Sides};
 use model::Step;
-use model::layout::{ENTRY_WORDS, Head, STATE_WORDS};
+use model::layout::{Head, STATE_WORDS, is_capacity};
 use std::fmt::Write;
 
 /// The shortest part of a list found that still fails, by dropping ever smaller pieces.
@@ -85,14 +85,14 @@ pub fn simplify(subject: Subject, call: Call, buffers: &Buffers) -> Buffers {
 
 /// The same log with less in it.
 fn cuts(buffers: &Buffers) -> Vec<Buffers> {
-    if buffers.state.len() != STATE_WORDS || buffers.entries.len() != ENTRY_WORDS {
+    if buffers.state.len() != STATE_WORDS || !is_capacity(buffers.entries.len()) {
         return vec![];
     }
     let head = Head::load(buffers.state[0]).0;
     let with = |head: Head| {
         let mut cut = buffers.clone();
         cut.state[0] = head.word();
-        cut.entries[(head.entry_count as usize).min(ENTRY_WORDS)..].fill(0);
+        cut.entries[(head.entry_count as usize).min(buffers.entries.len())..].fill(0);
         cut.state[(272 + head.list_length as usize).min(STATE_WORDS)..].fill(0);
         cut.state[(16 + head.next_ledger as usize).min(272)..272].fill(0);
         cut.state[(1 + head.client_count as usize).min(17)..17].fill(0);

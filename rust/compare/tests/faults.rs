@@ -383,7 +383,7 @@ fn right_of_the_named_leader(call: Call, lent: &mut Lent) -> Outcome {
 // The content of the log is looked at before the length of the rights.
 fn content_before_the_length(call: Call, lent: &mut Lent) -> Outcome {
     let outcome = call::model(call, lent);
-    let right_lengths = lent.state.len() == 527 && lent.entries.len() == 4096;
+    let right_lengths = lent.state.len() == 527 && matches!(lent.entries.len(), 512 | 4096);
     if let (Call::StepWith(..), Outcome::Answer(Answer::Refused(1))) = (call, &outcome)
         && right_lengths
         && !words::well_formed(lent.state, lent.entries)
@@ -594,6 +594,62 @@ fn makes_a_plan_short() {
     assert_eq!(plan.split(", ").count(), 2, "{report}");
 }
 
+// A log of 512 words says that it took a 513th entry.
+fn full_only_at_4096(call: Call, lent: &mut Lent) -> Outcome {
+    match call::model(call, lent) {
+        Outcome::Answer(Answer::Refused(13)) if lent.entries.len() == 512 => {
+            Outcome::Answer(Answer::Entry { number: 512, place: 0 })
+        }
+        outcome => outcome,
+    }
+}
+
+// An entry buffer of 513 words is taken for one of 512.
+fn takes_513_words(call: Call, lent: &mut Lent) -> Outcome {
+    let Lent { state, entries, marks, rights, plan, output } = lent;
+    let words = if entries.len() == 513 { 512 } else { entries.len() };
+    call::model(call, &mut Lent { state, entries: &mut entries[..words], marks, rights, plan, output })
+}
+
+// With 512 words every count up to 4,096 is in range.
+fn takes_a_count_above_512(call: Call, lent: &mut Lent) -> Outcome {
+    let (right, head) = (lent.state.len() == 527, lent.state.first().copied().unwrap_or(0));
+    if call != Call::WellFormed || !right || lent.entries.len() != 512 || !(513..=4096).contains(&(head >> 51)) {
+        return call::model(call, lent);
+    }
+    lent.state[0] = Head { entry_count: 512, ..Head::load(head).0 }.word() | head & 0x1FF_FFFF;
+    let outcome = call::model(call, lent);
+    lent.state[0] = head;
+    outcome
+}
+
+#[test]
+fn finds_wrong_capacities() {
+    let given = "number: 512, place: 0 }), the model Answer(Refused(13))";
+    let report = first(buffers::compare, full_only_at_4096, 3000).expect("the fault is found");
+    assert!(report.contains(given) && report.contains("entries: 512 words, 512 not zero"), "{report}");
+    let report = first(histories::compare, full_only_at_4096, 100).expect("the fault is found");
+    assert!(report.contains(given) && report.contains(") on 512 entry words\n"), "{report}");
+    // Client 0 begins a ledger and writes 513 times.
+    assert_eq!(history(&report).len(), 4 + 513, "{report}");
+}
+
+// A history's buffers have their lengths and a count in range, so these show only on other buffers.
+#[test]
+fn finds_wrong_lengths_and_counts() {
+    assert_eq!(first(histories::compare, takes_513_words, 20), None);
+    let report = first(buffers::compare, takes_513_words, 1000).expect("the fault is found");
+    assert!(report.contains("entries: 513 words, "), "{report}");
+    assert_eq!(first(histories::compare, takes_a_count_above_512, 20), None);
+    let report = first(buffers::compare, takes_a_count_above_512, 1000).expect("the fault is found");
+    assert!(report.contains("gives WellFormed(true), the model WellFormed(false)"), "{report}");
+    assert!(report.contains("entries: 512 words, "), "{report}");
+    let log = logs::all().pop().expect("the small one");
+    let mut sides = Sides::new(takes_a_count_above_512);
+    let report = sweep::changes(takes_a_count_above_512, &mut sides, &log, 0..64).unwrap_err();
+    assert!(report.contains("The log 'small and full' with bit 51 of state word 0 changed"), "{report}");
+}
+
 #[test]
 fn finds_wrong_rights() {
     for compare in [histories::compare, buffers::compare] {
@@ -774,7 +830,8 @@ fn finds_an_overlooked_bit() {
 #[test]
 fn finds_a_stray_store() {
     let report = first(buffers::compare, stray_store, 1000).expect("the fault is found");
-    assert!(report.contains("entries: 4096 words, 0 not zero"), "{report}");
+    let entries = report.lines().find(|line| line.starts_with("entries: ")).unwrap_or_default();
+    assert!(entries.ends_with(" words, 0 not zero"), "{report}");
 }
 
 #[test]

@@ -1,4 +1,4 @@
-//! Single-bit changes of marks: which of them the library takes, counted by hand; and all of them beside four logs.
+//! Single-bit changes of marks: which of them the library takes, counted by hand; and all of them beside five logs.
 
 use cindrolf::{Error, Log, MARK_WORDS, MarkName, Refusal};
 use compare::sides::Sides;
@@ -59,7 +59,7 @@ fn changes_of_one_mark() {
 }
 
 #[test]
-fn every_change_beside_four_logs() {
+fn every_change_beside_five_logs() {
     let mut sides = Sides::new(call::library);
     for log in logs::all() {
         sweep::mark_changes(call::library, &mut sides, &log).unwrap();

@@ -64,15 +64,21 @@ fn source_agrees(view: &View, source: &Source) {
         }
     }
     assert_eq!(view.entry(EntryNumber(source.next_entry_id)), None);
+    assert_eq!(view.capacity().words(), source.capacity);
 }
 
 #[test]
 fn histories() {
+    histories_with(512);
+    histories_with(4096);
+}
+
+fn histories_with(capacity: usize) {
     let mut random = Random::new(8);
     let mut most = (0, 0);
     for round in 0..10 {
         let profile = Profile::ALL[round % Profile::ALL.len()];
-        let mut source = Source::init(random.between(1, 16));
+        let mut source = Source::init_with(random.between(1, 16), capacity);
         for step in 0..5_000 {
             let (client, next) = profile.next(&mut random, &source);
             source.step(client, next);
@@ -85,7 +91,7 @@ fn histories() {
         source_agrees(&LogRef::new(&state, &entries).view().unwrap(), &source);
         most = (most.0.max(source.md_next_lid), most.1.max(source.next_entry_id));
     }
-    assert_eq!(most, (256, 4096), "the histories reach both limits");
+    assert_eq!(most, (256, capacity as u64), "the histories reach both limits");
 }
 
 fn layout_agrees(view: &View, state: &[u64], entries: &[u64]) {
@@ -137,6 +143,10 @@ fn none_without_a_log() {
     words::step(&mut state, &mut entries, 0, Step::Become);
     assert_eq!(refusal(&state[1..], &entries), Some(Refusal::WrongLength));
     assert_eq!(refusal(&state, &entries[1..]), Some(Refusal::WrongLength));
+    for length in [511, 513] {
+        assert_eq!(refusal(&state, &entries[..length]), Some(Refusal::WrongLength));
+    }
+    assert_eq!(LogRef::new(&state, &entries[..512]).view().map(|view| view.capacity().words()), Ok(512));
     state[1] |= 7 << 60;
     assert_eq!(refusal(&state, &entries), Some(Refusal::NotWellFormed));
 }

@@ -1,13 +1,17 @@
 //! The two halves of the model against each other: LedgerChaining's terms and the reference's words, on random histories; and the reference's examples.
 
 use model::histories::Profile;
-use model::layout::{Client, ENTRY_WORDS, Entry, NONE, STATE_WORDS, client_index};
+use model::layout::{Client, ENTRY_WORDS, Entry, Head, NONE, SMALL_ENTRY_WORDS, STATE_WORDS, client_index};
 use model::random::Random;
 use model::source::{Source, Taken};
 use model::{Answer, Step, rights, words};
 
 fn fresh(client_count: u64) -> (Vec<u64>, Vec<u64>) {
-    let (mut state, mut entries) = (vec![7; STATE_WORDS], vec![7; ENTRY_WORDS]);
+    fresh_with(client_count, ENTRY_WORDS)
+}
+
+fn fresh_with(client_count: u64, capacity: usize) -> (Vec<u64>, Vec<u64>) {
+    let (mut state, mut entries) = (vec![7; STATE_WORDS], vec![7; capacity]);
     assert_eq!(words::fresh(&mut state, &mut entries, client_count), Answer::Done);
     (state, entries)
 }
@@ -15,12 +19,13 @@ fn fresh(client_count: u64) -> (Vec<u64>, Vec<u64>) {
 #[test]
 fn histories_agree() {
     let mut random = Random::new(1);
-    let mut most = (0, 0);
+    let mut most = [(0, 0); 2];
     for round in 0..60 {
         let clients = random.between(1, 16);
         let profile = Profile::ALL[round % Profile::ALL.len()];
-        let mut source = Source::init(clients);
-        let (mut state, mut entries) = fresh(clients);
+        let size = round / Profile::ALL.len() % 2;
+        let mut source = Source::init_with(clients, [SMALL_ENTRY_WORDS, ENTRY_WORDS][size]);
+        let (mut state, mut entries) = fresh_with(clients, source.capacity);
         for _ in 0..5_000 {
             let (client, step) = profile.next(&mut random, &source);
             let has_right = random.chance(98);
@@ -37,9 +42,42 @@ fn histories_agree() {
             assert!((&state, &entries) == (&source.buffers().0, &source.buffers().1), "after {client} {step:?}");
         }
         readings_agree(&source, &state, &entries);
-        most = (most.0.max(source.md_next_lid), most.1.max(source.next_entry_id));
+        most[size] = (most[size].0.max(source.md_next_lid), most[size].1.max(source.next_entry_id));
     }
-    assert_eq!(most, (256, 4096), "the histories reach both limits");
+    assert_eq!(most, [(256, 512), (256, 4096)], "the histories reach both limits");
+}
+
+// Both lengths are a log's and no other is; the limits of the count and of the entries follow the length.
+#[test]
+fn capacities() {
+    for length in [0, 1, 511, 513, 4095, 4097, 8192] {
+        let (mut state, mut entries) = (vec![0; STATE_WORDS], vec![0; length]);
+        assert_eq!(words::fresh(&mut state, &mut entries, 1), Answer::Refused(1), "{length} words");
+        assert_eq!(words::step(&mut state, &mut entries, 0, Step::Become), Answer::Refused(1), "{length} words");
+    }
+    for capacity in [512, 4096] {
+        let (mut state, mut entries) = fresh_with(1, capacity);
+        let mut step = |step| words::step(&mut state, &mut entries, 0, step);
+        for taken in [Step::Become, Step::Fetch, Step::Create, Step::Append] {
+            assert_eq!(step(taken), Answer::Done);
+        }
+        for number in 0..capacity as u64 {
+            assert_eq!(step(Step::Write(1)), Answer::Entry { number, place: number });
+        }
+        assert_eq!(step(Step::Write(1)), Answer::Refused(13));
+        state[0] = Head { entry_count: capacity as u64 + 1, ..Head::load(state[0]).0 }.word();
+        assert_eq!(words::step(&mut state, &mut entries, 0, Step::Fetch), Answer::Refused(2));
+    }
+    // What is one entry too many for 512 words is none for 4,096.
+    let (mut state, mut entries) = fresh(1);
+    for taken in [Step::Become, Step::Fetch, Step::Create, Step::Append] {
+        assert_eq!(words::step(&mut state, &mut entries, 0, taken), Answer::Done);
+    }
+    for _ in 0..513 {
+        words::step(&mut state, &mut entries, 0, Step::Write(1));
+    }
+    assert!(words::well_formed(&state, &entries));
+    assert!(!words::well_formed(&state, &entries[..512]));
 }
 
 /// All rights, or all but the client's to this step.
