@@ -630,8 +630,8 @@ fn finds_wrong_capacities() {
     assert!(report.contains(given) && report.contains("entries: 512 words, 512 not zero"), "{report}");
     let report = first(histories::compare, full_only_at_4096, 100).expect("the fault is found");
     assert!(report.contains(given) && report.contains(") on 512 entry words\n"), "{report}");
-    // Client 0 begins a ledger and writes 513 times.
-    assert_eq!(history(&report).len(), 4 + 513, "{report}");
+    // What shows it is a write, by value or by scores.
+    assert!(history(&report).last().is_some_and(|line| line.contains("Write")), "{report}");
 }
 
 // A history's buffers have their lengths and a count in range, so these show only on other buffers.
