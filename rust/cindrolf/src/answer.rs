@@ -1,6 +1,7 @@
 //! What each operation answers, and the numbers by which answers cross the boundary.
 
 use crate::{Error, Refusal};
+use std::fmt;
 
 /// The number of an entry, from 0: its index in the entry buffer.
 #[derive(Clone, Copy, Debug, PartialEq, Eq, Hash, PartialOrd, Ord)]
@@ -57,6 +58,72 @@ pub enum Progress {
     Done,
     /// Another leader was faster, and the client no longer leads.
     Behind,
+}
+
+/// How a step went, whichever it was: what [`take`](crate::Log::take) answers.
+#[derive(Clone, Copy, Debug, PartialEq, Eq, Hash)]
+#[must_use = "a client that is behind has to fetch again, or no longer leads"]
+pub enum Answer {
+    /// The step was taken.
+    Done,
+    /// From close last: the ledger was closed already.
+    WasClosed,
+    /// From close last, finish, append and close own: another leader was faster.
+    Behind,
+    /// From a write: where its entry is stored.
+    Stored(Position),
+}
+
+impl From<()> for Answer {
+    fn from((): ()) -> Self {
+        Answer::Done
+    }
+}
+
+impl From<CloseLast> for Answer {
+    fn from(answer: CloseLast) -> Self {
+        match answer {
+            CloseLast::Done => Answer::Done,
+            CloseLast::WasClosed => Answer::WasClosed,
+            CloseLast::Behind => Answer::Behind,
+        }
+    }
+}
+
+impl From<Finish> for Answer {
+    fn from(answer: Finish) -> Self {
+        match answer {
+            Finish::Done => Answer::Done,
+            Finish::Behind => Answer::Behind,
+        }
+    }
+}
+
+impl From<Progress> for Answer {
+    fn from(answer: Progress) -> Self {
+        match answer {
+            Progress::Done => Answer::Done,
+            Progress::Behind => Answer::Behind,
+        }
+    }
+}
+
+impl From<Position> for Answer {
+    fn from(position: Position) -> Self {
+        Answer::Stored(position)
+    }
+}
+
+/// As the session program prints it: `ok`, `was`, `behind`, or `entry 3 place 0`.
+impl fmt::Display for Answer {
+    fn fmt(&self, f: &mut fmt::Formatter<'_>) -> fmt::Result {
+        match self {
+            Answer::Done => f.write_str("ok"),
+            Answer::WasClosed => f.write_str("was"),
+            Answer::Behind => f.write_str("behind"),
+            Answer::Stored(at) => write!(f, "entry {} place {}", at.number.0, at.place.0),
+        }
+    }
 }
 
 /// The step that a client should take next.

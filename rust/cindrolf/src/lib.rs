@@ -222,7 +222,9 @@ mod storage;
 mod version;
 mod view;
 
-pub use answer::{Advice, CloseLast, EntryNumber, Finish, LedgerNumber, LedgerPlace, Position, Progress, ReadingPlace};
+pub use answer::{
+    Advice, Answer, CloseLast, EntryNumber, Finish, LedgerNumber, LedgerPlace, Position, Progress, ReadingPlace,
+};
 pub use capacity::Capacity;
 pub use error::{Error, Refusal};
 pub use log::{Log, LogMut, LogRef, PermittedLog};

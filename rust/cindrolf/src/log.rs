@@ -1,8 +1,8 @@
 //! A log that owns its buffers, and logs that borrow them.
 
 use crate::{
-    Advice, Capacity, CloseLast, Error, Finish, Forecast, LedgerNumber, MarkName, Position, Progress, ReadingPlace,
-    Refusal, Rights, STATE_WORDS, StepWord, View, calls, check_version,
+    Advice, Answer, Capacity, CloseLast, Error, Finish, Forecast, LedgerNumber, MarkName, Position, Progress,
+    ReadingPlace, Refusal, Rights, STATE_WORDS, Step, StepWord, View, calls, check_version,
 };
 
 /// A log that owns its two buffers.
@@ -264,6 +264,43 @@ impl<'a> LogRef<'a> {
         calls::read_mark(self.state, self.entries, marks, name, output)
     }
 }
+
+// Any step, for whoever has it as a value.
+macro_rules! take {
+    ($($log:ty),*) => {$(
+        impl $log {
+            /// Takes the step by its own function, and answers as that does.
+            ///
+            /// ```
+            /// use cindrolf::{Answer, Error, Log, Refusal, Step};
+            ///
+            /// let mut log = Log::fresh(1)?;
+            /// for step in [Step::Become, Step::Fetch, Step::Create, Step::Append] {
+            ///     assert_eq!(log.take(0, step)?, Answer::Done);
+            /// }
+            /// assert_eq!(log.take(0, Step::Write(7))?.to_string(), "entry 0 place 0");
+            /// assert_eq!(log.take(0, Step::Become), Err(Error::Refused(Refusal::AlreadyLeads)));
+            /// # Ok::<(), Error>(())
+            /// ```
+            pub fn take(&mut self, client: u64, step: Step) -> Result<Answer, Error> {
+                match step {
+                    Step::Name => self.name(client).map(Answer::from),
+                    Step::Become => self.become_leader(client).map(Answer::from),
+                    Step::Abdicate => self.abdicate(client).map(Answer::from),
+                    Step::Fetch => self.fetch(client).map(Answer::from),
+                    Step::CloseLast => self.close_last(client).map(Answer::from),
+                    Step::Finish => self.finish(client).map(Answer::from),
+                    Step::Create => self.create(client).map(Answer::from),
+                    Step::Append => self.append(client).map(Answer::from),
+                    Step::Write(value) => self.write(client, value).map(Answer::from),
+                    Step::CloseOwn => self.close_own(client).map(Answer::from),
+                }
+            }
+        }
+    )*};
+}
+
+take!(Log, LogMut<'_>, PermittedLog<'_>);
 
 // The steps under rights, each by its function in `calls` and what it takes beside its client.
 macro_rules! permitted_steps {

@@ -28,8 +28,8 @@ pub enum Step {
 }
 
 impl Step {
-    /// Its place in the reference's order of steps, from 0.
-    const fn number(self) -> u64 {
+    /// Its number, 0 to 9: its place in the reference's order of steps.
+    pub const fn number(self) -> u64 {
         match self {
             Step::Name => 0,
             Step::Become => 1,

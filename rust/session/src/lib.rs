@@ -1,0 +1,126 @@
+//! The text of a session, as the session program reads and prints it: client count, lines, replies and sums.
+//!
+//! The program itself is proved, and written in Rattle. This crate is for commands in Rust that take the same lines.
+
+use cindrolf::{Answer, Error, Step};
+use std::fmt;
+
+/// The most bytes that a session has.
+pub const MOST_BYTES: usize = 16_384;
+
+/// Why a text is no session. Its text is all that the session program prints then.
+#[derive(Clone, Copy, Debug, PartialEq, Eq)]
+pub enum NoSession {
+    /// It has more than [`MOST_BYTES`].
+    TooLong,
+    /// The first line is no client count of 1 to 16.
+    BadStart,
+}
+
+impl fmt::Display for NoSession {
+    fn fmt(&self, f: &mut fmt::Formatter<'_>) -> fmt::Result {
+        f.write_str(match self {
+            NoSession::TooLong => "too long",
+            NoSession::BadStart => "bad start",
+        })
+    }
+}
+
+impl std::error::Error for NoSession {}
+
+/// A session's client count, and the lines after it.
+#[derive(Clone, Debug, PartialEq, Eq)]
+pub struct Session<'a> {
+    /// The client count, 1 to 16.
+    pub client_count: u64,
+    /// The lines after the first.
+    pub lines: Vec<Line<'a>>,
+}
+
+/// A line of a session.
+#[derive(Clone, Copy, Debug, PartialEq, Eq)]
+pub struct Line<'a> {
+    /// Its bytes without the line end.
+    pub bytes: &'a [u8],
+    /// Whether it has its line end. Only the last line may lack it, and is a bad line then.
+    pub ended: bool,
+}
+
+impl<'a> Session<'a> {
+    /// The session in these bytes.
+    pub fn read(input: &'a [u8]) -> Result<Self, NoSession> {
+        if input.len() > MOST_BYTES {
+            return Err(NoSession::TooLong);
+        }
+        let mut lines = input.split_inclusive(|&byte| byte == b'\n').map(|line| match line.strip_suffix(b"\n") {
+            Some(bytes) => Line { bytes, ended: true },
+            None => Line { bytes: line, ended: false },
+        });
+        let first = lines.next().filter(|line| line.ended).and_then(|line| number(line.bytes, 16));
+        match first {
+            None | Some(0) => Err(NoSession::BadStart),
+            Some(client_count) => Ok(Session { client_count, lines: lines.collect() }),
+        }
+    }
+}
+
+impl Line<'_> {
+    /// The client and its step. A bad line has none.
+    pub fn step(&self) -> Option<(u64, Step)> {
+        if self.ended { step(self.bytes) } else { None }
+    }
+}
+
+/// The client and the step in a line without its end.
+///
+/// ```
+/// use cindrolf::Step;
+/// assert_eq!(session::step(b"W 3 201"), Some((3, Step::Write(201))));
+/// assert_eq!(session::step(b"W 3"), None);
+/// ```
+pub fn step(line: &[u8]) -> Option<(u64, Step)> {
+    let mut fields = line.split(|&byte| byte == b' ');
+    let letter = fields.next()?;
+    let client = number(fields.next()?, 255)?;
+    let step = match letter {
+        b"N" => Step::Name,
+        b"B" => Step::Become,
+        b"A" => Step::Abdicate,
+        b"F" => Step::Fetch,
+        b"L" => Step::CloseLast,
+        b"K" => Step::Finish,
+        b"C" => Step::Create,
+        b"P" => Step::Append,
+        b"W" => Step::Write(number(fields.next()?, u64::MAX)?),
+        b"O" => Step::CloseOwn,
+        _ => return None,
+    };
+    fields.next().is_none().then_some((client, step))
+}
+
+/// A number in decimal digits without leading zeros, up to a limit.
+pub fn number(digits: &[u8], most: u64) -> Option<u64> {
+    let plain = digits.iter().all(u8::is_ascii_digit) && (digits.len() == 1 || digits.first() != Some(&b'0'));
+    let number = str::from_utf8(digits).ok()?.parse().ok()?;
+    (plain && number <= most).then_some(number)
+}
+
+/// The reply to a step, as `ok`, `entry 3 place 0` or `ref 12`. What is no refusal is an error here too.
+pub fn reply(taken: Result<Answer, Error>) -> Result<String, Error> {
+    match taken {
+        Ok(answer) => Ok(answer.to_string()),
+        Err(Error::Refused(refusal)) => Ok(format!("ref {}", refusal.number())),
+        Err(error) => Err(error),
+    }
+}
+
+/// A number of parts of 10^-12, with all its decimals.
+pub fn exact(parts: u128) -> String {
+    format!("{}.{:012}", parts / 1_000_000_000_000, parts % 1_000_000_000_000)
+}
+
+/// The same in thousandths, a half rounded up.
+pub fn rounded(parts: u128) -> String {
+    let thousandths = (parts + 500_000_000) / 1_000_000_000;
+    format!("{}.{:03}", thousandths / 1000, thousandths % 1000)
+}
