@@ -34,6 +34,16 @@ need() { # TOOL WHAT-IT-IS
     command -v "$1" >/dev/null 2>&1 || fail 2 "$2 is needed, and there is no command '$1' on the PATH"
 }
 
+# The library SQLite, by a program that links it.
+need_sqlite() {
+    folder=$(mktemp -d) || fail 2 "cannot make a folder for temporary files"
+    echo 'int sqlite3_libversion_number(void); int main(void) { return !sqlite3_libversion_number(); }' >"$folder/links.c"
+    links=yes
+    ${CC:-cc} "$folder/links.c" -lsqlite3 -o "$folder/links" >/dev/null 2>&1 || links=''
+    rm -rf -- "$folder"
+    [ -n "$links" ] || fail 2 "SQLite is needed, and no program links with -lsqlite3: install Debian's package libsqlite3-dev"
+}
+
 # A path as it is called from any folder.
 absolute() { # PATH
     case $1 in

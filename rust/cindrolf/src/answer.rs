@@ -74,6 +74,19 @@ pub enum Answer {
     Stored(Position),
 }
 
+impl Answer {
+    /// Its number, by which the library gives it: done, was closed and behind are 0 to 2, and an entry is 2^32 + 65,536
+    /// times its number + its place.
+    pub const fn number(self) -> u64 {
+        match self {
+            Answer::Done => DONE,
+            Answer::WasClosed => WAS_CLOSED,
+            Answer::Behind => BEHIND,
+            Answer::Stored(at) => ENTRY + at.number.0 * NUMBER_UNIT + at.place.0,
+        }
+    }
+}
+
 impl From<()> for Answer {
     fn from((): ()) -> Self {
         Answer::Done
@@ -235,6 +248,10 @@ mod tests {
         assert_eq!(entry(0x1_0001_0000), at(1, 0));
         assert_eq!(entry(0x1_0FFF_0002), at(4095, 2));
         assert_eq!(entry(0x1_0FFF_0FFF), at(4095, 4095));
+        for number in [0x1_0000_0000, 0x1_0001_0000, 0x1_0FFF_0002] {
+            assert_eq!(entry(number).map(|at| Answer::from(at).number()), Ok(number));
+        }
+        assert_eq!([Answer::Done, Answer::WasClosed, Answer::Behind].map(Answer::number), [0, 1, 2]);
     }
 
     // Name is never advised.

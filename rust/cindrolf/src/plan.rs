@@ -43,6 +43,23 @@ impl Step {
             Step::CloseOwn => 9,
         }
     }
+
+    /// The step of a number, with the value where it is a write. A number of 10 or above is none.
+    pub const fn from_number(number: u64, value: u64) -> Option<Self> {
+        match number {
+            0 => Some(Step::Name),
+            1 => Some(Step::Become),
+            2 => Some(Step::Abdicate),
+            3 => Some(Step::Fetch),
+            4 => Some(Step::CloseLast),
+            5 => Some(Step::Finish),
+            6 => Some(Step::Create),
+            7 => Some(Step::Append),
+            8 => Some(Step::Write(value)),
+            9 => Some(Step::CloseOwn),
+            _ => None,
+        }
+    }
 }
 
 /// A step by a client, as a word of a plan: the step's number in the 4 most significant bits, the client in the 8 below,
@@ -82,19 +99,7 @@ impl StepWord {
 
     /// The step. A word whose number is 10 or above names none.
     pub const fn step(self) -> Option<Step> {
-        match self.0 >> 60 {
-            0 => Some(Step::Name),
-            1 => Some(Step::Become),
-            2 => Some(Step::Abdicate),
-            3 => Some(Step::Fetch),
-            4 => Some(Step::CloseLast),
-            5 => Some(Step::Finish),
-            6 => Some(Step::Create),
-            7 => Some(Step::Append),
-            8 => Some(Step::Write(value_of(self.0))),
-            9 => Some(Step::CloseOwn),
-            _ => None,
-        }
+        Step::from_number(self.0 >> 60, value_of(self.0))
     }
 
     /// The client, 0 to 255.

@@ -1,0 +1,136 @@
+//! Why a call on a store gave no answer, and whether its step may be stored all the same.
+
+use crate::database::Fault;
+use crate::sqlite;
+use cindrolf::Refusal;
+use std::fmt;
+
+/// Whether a step that gave no answer is in the file.
+#[derive(Clone, Copy, Debug, PartialEq, Eq)]
+pub enum Stored {
+    /// It is not.
+    No,
+    /// It may be: look before it is taken again. [`Latest::writes_of`](crate::Latest::writes_of) tells of a write.
+    Unknown,
+}
+
+/// Why a call gave no answer.
+#[derive(Clone, Debug, PartialEq, Eq)]
+#[non_exhaustive]
+pub enum Error {
+    /// The log refused the call. Nothing is stored.
+    Refused(Refusal),
+    /// The linked library is of another version, or a text is no name of a mark. Nothing is stored.
+    Library(cindrolf::Error),
+    /// There is no file of this name.
+    Missing,
+    /// There is a file of this name already.
+    Exists,
+    /// The file is of SQLite, and empty: its creation was begun and not finished. `create` finishes it.
+    Unfinished,
+    /// The file is no log, or one of another version. This is what it lacks.
+    NoLog(String),
+    /// The file is a log that does not hold together. This is where.
+    Damaged(String),
+    /// The journal has [`MOST_ROWS`](crate::MOST_ROWS), the most that it takes.
+    JournalFull,
+    /// The store was opened in another process, and this one is forked from that. It has to open the file itself.
+    Forked,
+    /// A file could not be written. This is why.
+    File(String),
+    /// SQLite failed.
+    Engine {
+        /// Whether the step may be stored all the same.
+        stored: Stored,
+        /// What SQLite answered.
+        fault: Fault,
+    },
+}
+
+impl Error {
+    /// Whether the step may be stored although it gave no answer.
+    pub fn stored(&self) -> Stored {
+        match self {
+            Error::Engine { stored, .. } => *stored,
+            _ => Stored::No,
+        }
+    }
+
+    /// The refusal, where the log itself refused.
+    pub fn refusal(&self) -> Option<Refusal> {
+        match self {
+            Error::Refused(refusal) => Some(*refusal),
+            _ => None,
+        }
+    }
+
+    /// Whether another process held the lock for longer than this one waits.
+    pub fn is_busy(&self) -> bool {
+        matches!(self, Error::Engine { fault, .. } if fault.primary() == sqlite::BUSY)
+    }
+
+    /// The same where a commit was tried: then nothing tells whether it came to pass.
+    pub(crate) fn at_commit(self) -> Self {
+        match self {
+            Error::Engine { fault, .. } => Error::Engine { stored: Stored::Unknown, fault },
+            other => other,
+        }
+    }
+}
+
+impl From<Fault> for Error {
+    fn from(fault: Fault) -> Self {
+        match fault.primary() {
+            sqlite::NOTADB => Error::NoLog("it is no file of SQLite".into()),
+            sqlite::CORRUPT => Error::Damaged(format!("SQLite finds that {}", fault.message)),
+            _ => Error::Engine { stored: Stored::No, fault },
+        }
+    }
+}
+
+impl From<cindrolf::Error> for Error {
+    fn from(error: cindrolf::Error) -> Self {
+        match error {
+            cindrolf::Error::Refused(refusal) => Error::Refused(refusal),
+            error => Error::Library(error),
+        }
+    }
+}
+
+impl fmt::Display for Error {
+    fn fmt(&self, f: &mut fmt::Formatter<'_>) -> fmt::Result {
+        match self {
+            Error::Refused(refusal) => write!(f, "{refusal} (refusal {})", refusal.number()),
+            Error::Library(error) => write!(f, "{error}"),
+            Error::Missing => f.write_str("there is no such file"),
+            Error::Exists => f.write_str("there is a file of this name already"),
+            Error::Unfinished => f.write_str("its creation was not finished; create it again"),
+            Error::NoLog(why) => write!(f, "it is no run log of this version: {why}"),
+            Error::Damaged(why) => write!(f, "the log is damaged: {why}"),
+            Error::JournalFull => write!(f, "the log has {} steps, the most that one takes", crate::MOST_ROWS),
+            Error::Forked => f.write_str("the log was opened before this process was forked; open it anew"),
+            Error::File(why) => f.write_str(why),
+            Error::Engine { stored, fault } => {
+                let stored = match stored {
+                    Stored::No => "not stored",
+                    Stored::Unknown => "it is not known whether the step is stored",
+                };
+                write!(f, "{stored}: {} (SQLite's code {})", told(fault), fault.code)
+            }
+        }
+    }
+}
+
+/// What a fault means here, where SQLite's own words would not tell.
+fn told(fault: &Fault) -> &str {
+    match fault.primary() {
+        sqlite::BUSY => "another process held the log for longer than this one waits",
+        sqlite::FULL => "the disk is full",
+        sqlite::READONLY => "the file or its folder cannot be written",
+        sqlite::CANTOPEN => "the file, or one that SQLite keeps beside it, cannot be opened",
+        sqlite::IOERR => "the disk failed",
+        _ => &fault.message,
+    }
+}
+
+impl std::error::Error for Error {}

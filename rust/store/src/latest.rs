@@ -1,0 +1,101 @@
+//! The log as it was when it was last looked at, to read.
+
+use crate::Error;
+use crate::copy::LogCopy;
+use cindrolf::{Forecast, LedgerNumber, LogRef, MarkName, Rights, StepWord, View, client_of, value_of};
+
+/// The log as it was when it was last looked at: its words, marks and rights.
+#[derive(Clone, Copy)]
+pub struct Latest<'a>(&'a LogCopy);
+
+/// A listed ledger, and what its entries come to.
+#[derive(Clone, Copy, Debug, PartialEq, Eq)]
+pub struct LedgerSum {
+    /// Its number.
+    pub ledger: LedgerNumber,
+    /// How many entries it has.
+    pub entries: usize,
+    /// The sum of their values.
+    pub sum: u128,
+}
+
+impl<'a> Latest<'a> {
+    pub(crate) fn new(copy: &'a LogCopy) -> Self {
+        Latest(copy)
+    }
+
+    /// The log, with all its readers: a ledger, the chain, the first window over a limit, the adviser.
+    pub fn log(self) -> LogRef<'a> {
+        self.0.log()
+    }
+
+    /// What the log holds, field by field.
+    pub fn view(self) -> Result<View<'a>, Error> {
+        Ok(self.log().view()?)
+    }
+
+    /// How many rows the journal has: the steps that were accepted, and the changes of marks and rights.
+    pub fn rows(self) -> i64 {
+        self.0.seq
+    }
+
+    /// The chain reading: each entry with its client and its value, without its ledger.
+    pub fn chain(self) -> Result<Vec<u64>, Error> {
+        let mut output = vec![0; self.0.entries.len()];
+        let count = self.log().read_chain(&mut output)?;
+        output.truncate(count);
+        Ok(output)
+    }
+
+    /// How many writes of a client are stored. Who counts its own can tell whether the last one was, after a crash.
+    pub fn writes_of(self, client: u64) -> Result<usize, Error> {
+        Ok(self.chain()?.into_iter().filter(|&word| client_of(word) == client).count())
+    }
+
+    /// The listed ledgers in their order, each with its sum.
+    pub fn sums(self) -> Result<Vec<LedgerSum>, Error> {
+        let view = self.view()?;
+        view.list().map(|ledger| self.sum(ledger)).collect()
+    }
+
+    fn sum(self, ledger: LedgerNumber) -> Result<LedgerSum, Error> {
+        let words = self.log().read_ledger(ledger)?;
+        let sum = words.iter().map(|&word| u128::from(value_of(word))).sum();
+        Ok(LedgerSum { ledger, entries: words.len(), sum })
+    }
+
+    /// The run total: the sum of all values along the chain.
+    pub fn total(self) -> Result<u128, Error> {
+        Ok(self.sums()?.iter().map(|ledger| ledger.sum).sum())
+    }
+
+    /// The marks buffer, to read with [`LogRef::read_mark`].
+    pub fn marks(self) -> &'a [u64] {
+        &self.0.marks
+    }
+
+    /// The marks that are kept, each with the entry count when it was set.
+    pub fn mark_list(self) -> impl Iterator<Item = (MarkName, u64)> + use<'a> {
+        let pairs = self.0.marks.as_chunks::<2>().0.iter();
+        // The count is the 13 most significant bits of the second word.
+        pairs.filter(|pair| pair[0] != 0).map(|&[name, count]| (MarkName::from_word(name), count >> 51))
+    }
+
+    /// The chain reading as it was when the mark of this name was set.
+    pub fn read_mark(self, name: MarkName) -> Result<Vec<u64>, Error> {
+        let mut output = vec![0; self.0.entries.len()];
+        let count = self.log().read_mark(self.marks(), name, &mut output)?;
+        output.truncate(count);
+        Ok(output)
+    }
+
+    /// The rights under which every step is taken.
+    pub fn rights(self) -> &'a Rights {
+        &self.0.rights
+    }
+
+    /// What a run of this plan would add now.
+    pub fn forecast(self, plan: &[StepWord], budget: u64) -> Forecast {
+        self.log().forecast(self.rights(), plan, budget)
+    }
+}

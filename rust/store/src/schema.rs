@@ -1,0 +1,112 @@
+//! The tables and views of a log's file, and the numbers by which the file is known.
+
+use crate::Error;
+use crate::copy::LogCopy;
+use crate::database::{Database, Value};
+use cindrolf::Capacity;
+
+/// SQLite's application id of a log's file: `Cind`.
+pub const APPLICATION_ID: i64 = 0x4369_6E64;
+
+/// Every table, trigger and view: its name, and the statement that makes it. docs/REFERENCE.md explains them.
+const OBJECTS: [(&str, &str); 14] = [
+    ("log", include_str!("sql/log.sql")),
+    ("fresh_words", include_str!("sql/fresh_words.sql")),
+    ("journal", include_str!("sql/journal.sql")),
+    ("journal_is_not_changed", include_str!("sql/journal_is_not_changed.sql")),
+    ("journal_is_not_shortened", include_str!("sql/journal_is_not_shortened.sql")),
+    ("words", include_str!("sql/words.sql")),
+    ("steps", include_str!("sql/steps.sql")),
+    ("entries", include_str!("sql/entries.sql")),
+    ("chain", include_str!("sql/chain.sql")),
+    ("ledgers", include_str!("sql/ledgers.sql")),
+    ("clients", include_str!("sql/clients.sql")),
+    ("marks", include_str!("sql/marks.sql")),
+    ("rights", include_str!("sql/rights.sql")),
+    ("total", include_str!("sql/total.sql")),
+];
+
+/// Whether the file has nothing in it, as SQLite leaves one whose creation was not finished.
+pub fn is_empty(database: &Database) -> Result<bool, Error> {
+    let id = database.number("PRAGMA application_id")?;
+    let objects = database.number("SELECT count(*) FROM sqlite_schema")?;
+    Ok(id == Some(0) && objects == Some(0))
+}
+
+/// Makes an empty file a log's, in the transaction that is open.
+pub fn create(database: &Database, fresh: &LogCopy, client_count: u64) -> Result<(), Error> {
+    for (_, statement) in OBJECTS {
+        database.execute(statement.trim_end())?;
+    }
+    let (clients, words) = (client_count as i64, fresh.entries.len() as i64);
+    let mut log = database.prepare("INSERT INTO log (id, client_count, entry_words) VALUES (1, ?, ?)")?;
+    log.execute(&[Value::Integer(clients), Value::Integer(words)])?;
+    let mut insert = database.prepare("INSERT INTO fresh_words (at, word) VALUES (?, ?)")?;
+    for (at, word) in fresh.words() {
+        insert.execute(&[Value::Integer(at as i64), Value::Integer(word as i64)])?;
+    }
+    database.execute(&format!("PRAGMA application_id = {APPLICATION_ID}"))?;
+    database.execute(&format!("PRAGMA user_version = {}", cindrolf::VERSION))?;
+    Ok(())
+}
+
+/// Sees that the file is a log's, of this version.
+pub fn identify(database: &Database) -> Result<(), Error> {
+    if is_empty(database)? {
+        return Err(Error::Unfinished);
+    }
+    let id = database.number("PRAGMA application_id")?.unwrap_or(0);
+    if id != APPLICATION_ID {
+        return Err(Error::NoLog(format!("its application id is {id}, and not {APPLICATION_ID}")));
+    }
+    let version = database.number("PRAGMA user_version")?.unwrap_or(0);
+    if version != cindrolf::VERSION as i64 {
+        return Err(Error::NoLog(format!("its interface number is {version}, and not {}", cindrolf::VERSION)));
+    }
+    Ok(())
+}
+
+/// The fresh log that the file began with.
+pub fn fresh(database: &Database) -> Result<LogCopy, Error> {
+    let mut log = database.prepare("SELECT client_count, entry_words FROM log")?;
+    let counts = log.first(&[], |row| match (row.value(0), row.value(1)) {
+        (Value::Integer(clients), Value::Integer(words)) => Some((clients, words)),
+        _ => None,
+    })?;
+    let (clients, words) = counts.ok_or_else(|| Error::Damaged("its table log has no row".into()))?;
+    let capacity = usize::try_from(words).ok().and_then(Capacity::from_words);
+    let fresh = capacity.and_then(|capacity| LogCopy::fresh(clients as u64, capacity).ok());
+    let fresh = fresh.ok_or_else(|| Error::Damaged(format!("no log has {clients} clients and {words} entry words")))?;
+    let mut kept = Vec::new();
+    database.prepare("SELECT at, word FROM fresh_words ORDER BY at")?.each(&[], |row| {
+        if let (Value::Integer(at), Value::Integer(word)) = (row.value(0), row.value(1)) {
+            kept.push((at as usize, word as u64));
+        }
+        Ok::<(), Error>(())
+    })?;
+    if !fresh.words().eq(kept) {
+        return Err(Error::Damaged("its table fresh_words is not that of a fresh log".into()));
+    }
+    Ok(fresh)
+}
+
+/// Sees that every table, trigger and view is as it was made, and that there is no other.
+pub fn verify(database: &Database) -> Result<(), Error> {
+    let mut left: Vec<_> = OBJECTS.to_vec();
+    // SQLite's own tables come and go.
+    let mut objects =
+        database.prepare("SELECT name, sql FROM sqlite_schema WHERE name NOT LIKE 'sqlite\\_%' ESCAPE '\\'")?;
+    objects.each(&[], |row| {
+        let (Value::Text(name), Value::Text(made)) = (row.value(0), row.value(1)) else {
+            return Err(Error::Damaged("its schema has an object without a name or a statement".into()));
+        };
+        let known = left.iter().position(|&(known, statement)| known == name && statement.trim_end() == made);
+        let known = known.ok_or_else(|| Error::Damaged(format!("{name} is not as it was made")))?;
+        left.swap_remove(known);
+        Ok(())
+    })?;
+    match left.first() {
+        Some((name, _)) => Err(Error::Damaged(format!("it has no {name}"))),
+        None => Ok(()),
+    }
+}

@@ -1,0 +1,55 @@
+//! How a connection waits for the lock of another.
+
+use std::ffi::{c_int, c_void};
+use std::thread::sleep;
+use std::time::{Duration, Instant};
+
+/// The shortest sleep between two tries.
+const SHORTEST: Duration = Duration::from_micros(20);
+/// The longest one.
+const LONGEST: Duration = Duration::from_millis(1);
+
+/// Tries again after a random time, until its patience is over. SQLite's own handler sleeps up to 100 ms at a time, so
+/// that with sixteen processes some got no write in a second.
+pub struct Wait {
+    patience: Duration,
+    since: Instant,
+    random: u64,
+}
+
+impl Wait {
+    pub fn new(patience: Duration) -> Self {
+        let since = Instant::now();
+        // Processes that begin together take different times.
+        let random = u64::from(std::process::id()) << 32 ^ since_epoch();
+        Wait { patience, since, random }
+    }
+
+    /// SQLite's busy handler: `calls` is how often it was called for this lock.
+    ///
+    /// # Safety
+    ///
+    /// `data` is the address of a `Wait` that nobody else uses meanwhile.
+    pub unsafe extern "C" fn again(data: *mut c_void, calls: c_int) -> c_int {
+        // SAFETY: by the contract.
+        let wait = unsafe { &mut *data.cast::<Wait>() };
+        if calls == 0 {
+            wait.since = Instant::now();
+        } else if wait.since.elapsed() >= wait.patience {
+            return 0;
+        }
+        sleep(wait.pause());
+        1
+    }
+
+    fn pause(&mut self) -> Duration {
+        self.random = self.random.wrapping_mul(6_364_136_223_846_793_005).wrapping_add(1_442_695_040_888_963_407);
+        let span = (LONGEST - SHORTEST).as_nanos() as u64;
+        SHORTEST + Duration::from_nanos((self.random >> 32) * span >> 32)
+    }
+}
+
+fn since_epoch() -> u64 {
+    let now = std::time::SystemTime::now().duration_since(std::time::UNIX_EPOCH);
+    now.map_or(0, |now| now.as_nanos() as u64)
+}
