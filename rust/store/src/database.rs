@@ -157,6 +157,12 @@ impl Database {
         })
     }
 
+    /// Has the busy handler wait up to `patience` from now on.
+    pub fn set_patience(&self, patience: Duration) {
+        // SAFETY: `wait` lives as long as the handle, and SQLite uses it only within its own calls, of which none runs.
+        unsafe { (*self.0.wait).set_patience(patience) };
+    }
+
     /// Whether a transaction is open.
     pub fn in_transaction(&self) -> bool {
         // SAFETY: the connection is open.

@@ -69,6 +69,12 @@ impl Error {
         matches!(self, Error::Engine { fault, .. } if fault.primary() == sqlite::BUSY)
     }
 
+    /// Whether the disk had no room. SQLite tells of a write-ahead log that cannot grow by an error of writing.
+    pub(crate) fn is_full(&self) -> bool {
+        let full = |fault: &Fault| fault.primary() == sqlite::FULL || fault.code == sqlite::IOERR_WRITE;
+        matches!(self, Error::Engine { fault, .. } if full(fault))
+    }
+
     /// The same where a commit was tried: then nothing tells whether it came to pass.
     pub(crate) fn at_commit(self) -> Self {
         match self {

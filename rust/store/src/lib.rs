@@ -45,7 +45,8 @@
 mod backup;
 mod check;
 mod copy;
-mod database;
+#[doc(hidden)]
+pub mod database;
 mod error;
 mod journal;
 mod latest;

@@ -94,19 +94,30 @@ pub fn fresh(database: &Database) -> Result<LogCopy, Error> {
 pub fn verify(database: &Database) -> Result<(), Error> {
     let mut left: Vec<_> = OBJECTS.to_vec();
     // SQLite's own tables come and go.
-    let mut objects =
-        database.prepare("SELECT name, sql FROM sqlite_schema WHERE name NOT LIKE 'sqlite\\_%' ESCAPE '\\'")?;
+    let mut objects = database
+        .prepare("SELECT type, name, tbl_name, sql FROM sqlite_schema WHERE name NOT LIKE 'sqlite\\_%' ESCAPE '\\'")?;
     objects.each(&[], |row| {
-        let (Value::Text(name), Value::Text(made)) = (row.value(0), row.value(1)) else {
-            return Err(Error::Damaged("its schema has an object without a name or a statement".into()));
-        };
-        let known = left.iter().position(|&(known, statement)| known == name && statement.trim_end() == made);
-        let known = known.ok_or_else(|| Error::Damaged(format!("{name} is not as it was made")))?;
+        let found = [0, 1, 2, 3].map(|column| match row.value(column) {
+            Value::Text(text) => text,
+            _ => "",
+        });
+        let known = left.iter().position(|object| made(object) == found);
+        let known = known.ok_or_else(|| Error::Damaged(format!("{} is not as it was made", found[1])))?;
         left.swap_remove(known);
-        Ok(())
+        Ok::<(), Error>(())
     })?;
     match left.first() {
         Some((name, _)) => Err(Error::Damaged(format!("it has no {name}"))),
         None => Ok(()),
+    }
+}
+
+/// What SQLite says of an object: its type, its name, its table and its statement.
+fn made<'a>(&(name, statement): &(&'a str, &'a str)) -> [&'a str; 4] {
+    let statement = statement.trim_end();
+    match statement.split(' ').nth(1) {
+        Some("TABLE") => ["table", name, name, statement],
+        Some("VIEW") => ["view", name, name, statement],
+        _ => ["trigger", name, "journal", statement],
     }
 }

@@ -25,6 +25,7 @@ pub const CORRUPT: c_int = 11;
 pub const FULL: c_int = 13;
 pub const CANTOPEN: c_int = 14;
 pub const NOTADB: c_int = 26;
+pub const IOERR_WRITE: c_int = 778;
 pub const ROW: c_int = 100;
 pub const DONE: c_int = 101;
 

@@ -9,7 +9,8 @@ use cindrolf::{
     Answer, Capacity, CloseLast, Finish, MarkName, Position, Progress, Refusal, Right, Rights, Step, StepWord,
 };
 use std::path::{Path, PathBuf};
-use std::time::Duration;
+use std::thread::sleep;
+use std::time::{Duration, Instant};
 
 /// How long a call waits for the lock of another process, unless it is told otherwise.
 pub const PATIENCE: Duration = Duration::from_secs(10);
@@ -23,8 +24,10 @@ pub struct Store {
     process: u32,
     patience: Duration,
     link: Option<Link>,
-    /// Whether the engine failed since the file was opened.
-    failed: bool,
+    /// Whether the link's copy was thrown away.
+    stale: bool,
+    /// Whether the disk had no room for the last change.
+    full: bool,
 }
 
 // SAFETY: everything that shares the connection is inside the store, and SQLite lets any thread use a connection, one
@@ -42,6 +45,7 @@ pub(crate) struct Link {
     pub database: Database,
     /// Whether the file has a write-ahead log, without which nothing is written.
     ahead: bool,
+    patience: Duration,
 }
 
 /// What a change works on while it holds the lock: the copy, and the rows that it adds.
@@ -60,17 +64,13 @@ impl Store {
         if std::fs::metadata(path).is_ok_and(|file| file.is_dir()) {
             return Err(Error::Exists);
         }
-        let database = match Database::open(path, Mode::Create, PATIENCE) {
-            Ok(database) => database,
-            Err(fault) => return Err(fault.into()),
-        };
-        let empty = schema::is_empty(&database);
-        match empty {
+        let database = Database::open(path, Mode::Create, PATIENCE)?;
+        match schema::is_empty(&database) {
             Ok(true) => {}
             Ok(false) | Err(Error::NoLog(_) | Error::Damaged(_)) => return Err(Error::Exists),
             Err(error) => return Err(error),
         }
-        if !write_ahead(&database)? {
+        if !write_ahead(&database, PATIENCE)? {
             return Err(Error::NoLog("its disk cannot keep a write-ahead log".into()));
         }
         database.execute("PRAGMA synchronous = FULL")?;
@@ -81,22 +81,28 @@ impl Store {
         }
         schema::create(&database, &fresh, client_count)?;
         database.execute("COMMIT").map_err(|fault| Error::from(fault).at_commit())?;
-        drop(database);
-        Store::open(path)
+        Ok(Store { link: Some(Link::over(database, PATIENCE)?), ..Store::at(path) })
     }
 
     /// Opens the log in a file, and sees that it holds together.
     pub fn open(path: impl AsRef<Path>) -> Result<Store, Error> {
-        let path = path.as_ref().to_path_buf();
-        let mut store = Store { path, process: std::process::id(), patience: PATIENCE, link: None, failed: false };
+        let mut store = Store::at(path.as_ref());
         store.link()?;
         Ok(store)
+    }
+
+    /// The store of a file that is still to be opened.
+    fn at(path: &Path) -> Store {
+        let process = std::process::id();
+        Store { path: path.into(), process, patience: PATIENCE, link: None, stale: false, full: false }
     }
 
     /// How long a call waits for the lock of another process before it fails, from the next call on.
     pub fn set_patience(&mut self, patience: Duration) {
         self.patience = patience;
-        self.link = None;
+        if let Some(link) = &mut self.link {
+            link.set_patience(patience);
+        }
     }
 
     /// The file.
@@ -188,31 +194,41 @@ impl Store {
         self.guarded(|link| link.change(work))
     }
 
-    /// Works on the link, and throws it away with its copy where anything but a refusal comes of it.
+    /// Works on the link, and throws its copy away where anything but a refusal comes of it.
     pub(crate) fn guarded<T>(&mut self, work: impl FnOnce(&mut Link) -> Result<T, Error>) -> Result<T, Error> {
         let link = self.link()?;
         let result = work(link);
-        if let Err(error) = &result
-            && (link.database.in_transaction() || !leaves_the_copy(error))
-        {
-            self.failed = matches!(error, Error::Engine { .. });
-            self.link = None;
+        if let Err(error) = &result {
+            let open = link.database.in_transaction();
+            self.stale = open || !leaves_the_copy(error);
+            self.full = error.is_full();
+            if open && self.link.as_mut().is_some_and(|link| link.rollback.execute(&[]).is_err()) {
+                self.link = None;
+            }
         }
         result
     }
 
+    /// The link, with a copy.
     fn link(&mut self) -> Result<&mut Link, Error> {
         if self.process != std::process::id() {
             return Err(Error::Forked);
         }
+        if let Some(link) = &mut self.link
+            && self.full
+        {
+            link.empty_the_write_ahead_log();
+            self.full = false;
+        }
+        if self.stale
+            && let Some(link) = self.link.take()
+        {
+            // Where this fails, the file is opened anew next time.
+            self.link = Some(link.reloaded()?);
+        }
+        self.stale = false;
         if self.link.is_none() {
-            let link = Link::open(&self.path, self.patience)?;
-            if self.failed {
-                // A write-ahead log that cannot grow is emptied. Where that fails too, the next call tells.
-                let _ = link.database.execute("PRAGMA wal_checkpoint(TRUNCATE)");
-                self.failed = false;
-            }
-            self.link = Some(link);
+            self.link = Some(Link::open(&self.path, self.patience)?);
         }
         Ok(self.link.as_mut().expect("just set"))
     }
@@ -271,41 +287,66 @@ fn input_of(step: Step) -> Input {
     }
 }
 
-/// Has the file keep a write-ahead log, if that can be had.
-fn write_ahead(database: &Database) -> Result<bool, Error> {
-    Ok(database.text("PRAGMA journal_mode = WAL")?.as_deref() == Some("wal"))
+/// Has the file keep a write-ahead log, if that can be had. SQLite does not wait for the lock that it takes here.
+fn write_ahead(database: &Database, patience: Duration) -> Result<bool, Error> {
+    let since = Instant::now();
+    loop {
+        match database.text("PRAGMA journal_mode = WAL").map_err(Error::from) {
+            Err(error) if error.is_busy() && since.elapsed() < patience => sleep(Duration::from_millis(1)),
+            mode => return Ok(mode?.as_deref() == Some("wal")),
+        }
+    }
 }
 
 impl Link {
-    /// Opens the file, sees that it is a log's, and follows its journal.
     fn open(path: &Path, patience: Duration) -> Result<Self, Error> {
         match std::fs::metadata(path) {
             Err(error) if error.kind() == std::io::ErrorKind::NotFound => return Err(Error::Missing),
             Ok(file) if file.is_dir() => return Err(Error::NoLog("it is a folder".into())),
             _ => {}
         }
-        let database = Database::open(path, Mode::Existing, patience)?;
+        Link::over(Database::open(path, Mode::Existing, patience)?, patience)
+    }
+
+    fn over(database: Database, patience: Duration) -> Result<Self, Error> {
         for pragma in ["synchronous = FULL", "trusted_schema = OFF", "cell_size_check = ON"] {
             database.execute(&format!("PRAGMA {pragma}"))?;
         }
-        database.execute("BEGIN")?;
         schema::identify(&database)?;
-        let copy = schema::fresh(&database)?;
-        let ahead = database.text("PRAGMA journal_mode")?.as_deref() == Some("wal");
         let insert = format!("INSERT INTO journal ({COLUMNS}) VALUES (?, ?, ?, ?, ?, ?, ?, ?, ?, ?, ?, ?)");
-        let mut link = Link {
-            copy,
+        let link = Link {
+            copy: schema::fresh(&database)?,
             since: database.prepare(&format!("SELECT {COLUMNS} FROM journal WHERE seq > ? ORDER BY seq"))?,
             begin: database.prepare("BEGIN IMMEDIATE")?,
             insert: database.prepare(&insert)?,
             commit: database.prepare("COMMIT")?,
             rollback: database.prepare("ROLLBACK")?,
+            ahead: database.text("PRAGMA journal_mode")?.as_deref() == Some("wal"),
             database,
-            ahead,
+            patience,
         };
-        link.look()?;
-        link.commit.execute(&[])?;
-        Ok(link)
+        link.reloaded()
+    }
+
+    /// Follows the journal from the fresh log on.
+    fn reloaded(mut self) -> Result<Self, Error> {
+        self.copy = schema::fresh(&self.database)?;
+        self.look()?;
+        Ok(self)
+    }
+
+    fn set_patience(&mut self, patience: Duration) {
+        self.patience = patience;
+        self.database.set_patience(patience);
+    }
+
+    /// A write-ahead log that cannot grow is copied to the file and begun anew. Where that fails too, the next change
+    /// tells.
+    fn empty_the_write_ahead_log(&mut self) {
+        // Not to wait long for those who read.
+        self.database.set_patience(Duration::from_millis(100));
+        let _ = self.database.execute("PRAGMA wal_checkpoint(TRUNCATE)");
+        self.database.set_patience(self.patience);
     }
 
     /// Catches up, and sees that what came is well formed.
@@ -329,7 +370,7 @@ impl Link {
     /// One transaction that begins with the write lock. A step sees for itself that the words are well formed.
     fn change<T>(&mut self, work: impl FnOnce(&mut Change<'_>) -> Result<T, Error>) -> Result<T, Error> {
         if !self.ahead {
-            self.ahead = write_ahead(&self.database)?;
+            self.ahead = write_ahead(&self.database, self.patience)?;
             if !self.ahead {
                 return Err(Error::NoLog("it cannot be changed without a write-ahead log".into()));
             }

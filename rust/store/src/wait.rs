@@ -25,6 +25,10 @@ impl Wait {
         Wait { patience, since, random }
     }
 
+    pub fn set_patience(&mut self, patience: Duration) {
+        self.patience = patience;
+    }
+
     /// SQLite's busy handler: `calls` is how often it was called for this lock.
     ///
     /// # Safety
@@ -45,7 +49,7 @@ impl Wait {
     fn pause(&mut self) -> Duration {
         self.random = self.random.wrapping_mul(6_364_136_223_846_793_005).wrapping_add(1_442_695_040_888_963_407);
         let span = (LONGEST - SHORTEST).as_nanos() as u64;
-        SHORTEST + Duration::from_nanos((self.random >> 32) * span >> 32)
+        SHORTEST + Duration::from_nanos(((self.random >> 32) * span) >> 32)
     }
 }
 

@@ -1,0 +1,224 @@
+//! Acknowledged writes a second, by the store beside plain SQLite: every 100 ms all processes change from one to the other.
+
+use cindrolf::{Advice, Answer, Capacity, Log, Refusal, Rights, Step};
+use std::path::{Path, PathBuf};
+use std::process::{Child, Command, ExitCode, Stdio};
+use std::time::{Duration, Instant, SystemTime, UNIX_EPOCH};
+use store::database::{Database, Mode, Statement, Value};
+use store::{Error, PATIENCE, Store};
+use store_tests::calls;
+use store_tests::scratch::Scratch;
+use store_tests::shared::open_store;
+
+const USAGE: &str = "usage: rates [--seconds N] [--folder FOLDER]";
+const SLOT: Duration = Duration::from_millis(100);
+
+fn main() -> ExitCode {
+    let words: Vec<String> = std::env::args().skip(1).collect();
+    let words: Vec<&str> = words.iter().map(String::as_str).collect();
+    let result = match words[..] {
+        ["worker", folder, until, delay] => work(Path::new(folder), until, delay),
+        _ => options(&words).and_then(|(seconds, folder)| table(seconds, &folder)),
+    };
+    match result {
+        Ok(()) => ExitCode::SUCCESS,
+        Err(why) => {
+            eprintln!("rates: {why}");
+            ExitCode::FAILURE
+        }
+    }
+}
+
+fn options(words: &[&str]) -> Result<(u64, PathBuf), String> {
+    let (mut seconds, mut folder) = (20, std::env::temp_dir());
+    for pair in words.chunks(2) {
+        match *pair {
+            ["--seconds", text] => seconds = text.parse().map_err(|_| USAGE)?,
+            ["--folder", text] => folder = text.into(),
+            _ => return Err(USAGE.into()),
+        }
+    }
+    Ok((seconds, folder))
+}
+
+/// What one process did on one side.
+#[derive(Clone, Copy, Default)]
+struct Side {
+    writes: u64,
+    longest: Duration,
+}
+
+impl Side {
+    fn add(&mut self, taken: Duration) {
+        self.writes += 1;
+        self.longest = self.longest.max(taken);
+    }
+}
+
+fn table(seconds: u64, folder: &Path) -> Result<(), String> {
+    println!("The proved step alone takes {} ns, over a log that fills up.", proved_step().as_nanos());
+    println!("| Processes | A sync takes longer by | Plain | Store | Store / plain | Jain's index | Longest wait |");
+    println!("|---|---|---|---|---|---|---|");
+    for delay in [0, 1_000] {
+        for processes in [1, 16] {
+            row(seconds, folder, processes, delay)?;
+        }
+    }
+    Ok(())
+}
+
+fn row(seconds: u64, folder: &Path, processes: usize, delay: u64) -> Result<(), String> {
+    let scratch = Scratch::below(folder);
+    let until = since_epoch() + Duration::from_secs(seconds);
+    let children = (0..processes).map(|_| start(scratch.folder(), until, delay)).collect::<Result<Vec<_>, _>>()?;
+    let sides = children.into_iter().map(result_of).collect::<Result<Vec<_>, _>>()?;
+    let rate = |side: usize| sides.iter().map(|sides| sides[side].writes).sum::<u64>() as f64 / (seconds as f64 / 2.0);
+    let (store, plain) = (rate(0), rate(1));
+    let longest = sides.iter().map(|sides| sides[0].longest).max().unwrap_or_default();
+    println!(
+        "| {processes} | {delay} µs | {plain:.0} | {store:.0} | {:.2} | {:.2} | {} ms |",
+        store / plain,
+        jain(&sides.iter().map(|sides| sides[0].writes as f64).collect::<Vec<_>>()),
+        longest.as_millis()
+    );
+    Ok(())
+}
+
+/// Jain's index of fairness: 1 where all have as much.
+fn jain(counts: &[f64]) -> f64 {
+    let (sum, squares) = (counts.iter().sum::<f64>(), counts.iter().map(|count| count * count).sum::<f64>());
+    sum * sum / (counts.len() as f64 * squares)
+}
+
+fn start(folder: &Path, until: Duration, delay: u64) -> Result<Child, String> {
+    let program = std::env::current_exe().map_err(|error| error.to_string())?;
+    let mut command = Command::new(program);
+    command.arg("worker").arg(folder).args([until.as_millis().to_string(), delay.to_string()]);
+    command.stdout(Stdio::piped()).spawn().map_err(|error| error.to_string())
+}
+
+fn result_of(child: Child) -> Result<[Side; 2], String> {
+    let output = child.wait_with_output().map_err(|error| error.to_string())?;
+    let text = String::from_utf8_lossy(&output.stdout);
+    let numbers: Vec<u64> = text.split_whitespace().filter_map(|word| word.parse().ok()).collect();
+    match numbers[..] {
+        [store, store_longest, plain, plain_longest] if output.status.success() => Ok([
+            Side { writes: store, longest: Duration::from_micros(store_longest) },
+            Side { writes: plain, longest: Duration::from_micros(plain_longest) },
+        ]),
+        _ => Err(format!("a process ended with {}", output.status)),
+    }
+}
+
+/// What a process does: in turn, each for a slot of the clock that all share, it writes by the store and by plain SQLite.
+fn work(folder: &Path, until: &str, delay: &str) -> Result<(), String> {
+    let until = Duration::from_millis(until.parse().map_err(|_| USAGE)?);
+    calls::delay_sync(Duration::from_micros(delay.parse().map_err(|_| USAGE)?));
+    let mut logs = Logs::open(folder, 0).map_err(|error| error.to_string())?;
+    let mut plain = Plain::open(&folder.join("plain.db")).map_err(|error| error.to_string())?;
+    let mut sides = [Side::default(); 2];
+    loop {
+        let now = since_epoch();
+        if now >= until {
+            break;
+        }
+        let side = (now.as_millis() / SLOT.as_millis() % 2) as usize;
+        let began = Instant::now();
+        let value = sides[side].writes;
+        let done = if side == 0 { logs.write(value) } else { plain.write(value) };
+        done.map_err(|error| error.to_string())?;
+        sides[side].add(began.elapsed());
+    }
+    let [store, plain] = sides;
+    let micros = |side: Side| side.longest.as_micros();
+    println!("{} {} {} {}", store.writes, micros(store), plain.writes, micros(plain));
+    Ok(())
+}
+
+/// Logs that rotate as they fill. All processes step for client 0, since only one client writes at a time.
+struct Logs {
+    folder: PathBuf,
+    number: u64,
+    store: Store,
+}
+
+impl Logs {
+    fn open(folder: &Path, number: u64) -> Result<Logs, Error> {
+        let store = open_store(&folder.join(format!("log-{number}.db")), 16, Capacity::Large)?;
+        Ok(Logs { folder: folder.into(), number, store })
+    }
+
+    fn write(&mut self, value: u64) -> Result<(), Error> {
+        loop {
+            match self.store.write(0, value) {
+                Ok(_) => return Ok(()),
+                Err(Error::Refused(Refusal::LogFull)) => *self = Logs::open(&self.folder, self.number + 1)?,
+                Err(Error::Refused(Refusal::DoesNotLead | Refusal::OtherStage)) => self.lead()?,
+                Err(error) => return Err(error),
+            }
+        }
+    }
+
+    /// Takes a step towards the first write, unless another process was faster.
+    fn lead(&mut self) -> Result<(), Error> {
+        let step = match self.store.latest()?.log().advise(0)? {
+            Some(Advice::Become) => Step::Become,
+            Some(Advice::Fetch) => Step::Fetch,
+            Some(Advice::Create) => Step::Create,
+            Some(Advice::Append) => Step::Append,
+            _ => return Ok(()),
+        };
+        match self.store.take(0, step) {
+            Ok(_) | Err(Error::Refused(_)) => Ok(()),
+            Err(error) => Err(error),
+        }
+    }
+}
+
+/// A table of SQLite, with the durability and the waiting of the store.
+struct Plain {
+    begin: Statement,
+    insert: Statement,
+    commit: Statement,
+    _database: Database,
+}
+
+impl Plain {
+    fn open(path: &Path) -> Result<Plain, Error> {
+        let database = Database::open(path, Mode::Create, PATIENCE)?;
+        while database.text("PRAGMA journal_mode = WAL").is_err() {
+            std::thread::sleep(Duration::from_millis(1));
+        }
+        database.execute("PRAGMA synchronous = FULL")?;
+        database
+            .execute("CREATE TABLE IF NOT EXISTS plain (seq INTEGER PRIMARY KEY, client INTEGER, value INTEGER)")?;
+        Ok(Plain {
+            begin: database.prepare("BEGIN IMMEDIATE")?,
+            insert: database.prepare("INSERT INTO plain (client, value) VALUES (0, ?)")?,
+            commit: database.prepare("COMMIT")?,
+            _database: database,
+        })
+    }
+
+    fn write(&mut self, value: u64) -> Result<(), Error> {
+        self.begin.execute(&[])?;
+        self.insert.execute(&[Value::Integer(value as i64)])?;
+        Ok(self.commit.execute(&[])?)
+    }
+}
+
+/// What the library takes for a write under rights, over the fill of a whole log.
+fn proved_step() -> Duration {
+    let mut log = Log::fresh(16).expect("sixteen clients");
+    let rights = Rights::all(16).expect("sixteen clients");
+    for step in [Step::Become, Step::Fetch, Step::Create, Step::Append] {
+        assert_eq!(log.take(0, step), Ok(Answer::Done));
+    }
+    let began = Instant::now();
+    let writes = (0..).take_while(|&value| log.under(&rights).write(0, value).is_ok()).count();
+    began.elapsed() / writes as u32
+}
+
+fn since_epoch() -> Duration {
+    SystemTime::now().duration_since(UNIX_EPOCH).expect("a clock past 1970")
+}

@@ -1,0 +1,136 @@
+//! The system calls by which SQLite writes, made to fail, to wait, or to be seen.
+//!
+//! SQLite finds these functions of the program before those of the C library. They do the same, unless told otherwise.
+
+use std::ffi::{c_int, c_long, c_void};
+use std::sync::Mutex;
+use std::sync::atomic::{AtomicBool, AtomicU64, Ordering};
+use std::time::Duration;
+
+unsafe extern "C" {
+    fn syscall(number: c_long, ...) -> c_long;
+    fn __errno_location() -> *mut c_int;
+}
+
+const SYS_PWRITE64: c_long = 18;
+const SYS_FDATASYNC: c_long = 75;
+const SYS_FTRUNCATE: c_long = 77;
+
+/// An error of the disk.
+pub const EIO: c_int = 5;
+/// No space is left on the disk.
+pub const ENOSPC: c_int = 28;
+
+/// Whether calls are counted at all.
+static COUNTING: AtomicBool = AtomicBool::new(false);
+/// How many were made since counting began.
+static CALLS: AtomicU64 = AtomicU64::new(0);
+/// Which of them fails, from 1; 0 for none.
+static FAILS: AtomicU64 = AtomicU64::new(0);
+/// Past which offset nothing can be written; 0 for no such limit.
+static SIZE_LIMIT: AtomicU64 = AtomicU64::new(0);
+/// How many microseconds a sync takes longer.
+static SYNC_DELAY: AtomicU64 = AtomicU64::new(0);
+/// Called before the first write after it was set.
+static BEFORE_WRITE: Mutex<Option<Box<dyn FnOnce() + Send>>> = Mutex::new(None);
+
+/// Counts the calls that `work` makes to write, to sync and to cut a file short.
+pub fn counted<T>(work: impl FnOnce() -> T) -> (T, u64) {
+    failing(0, work)
+}
+
+/// Has one of the calls that `work` makes fail by an error of the disk: the one of this number, from 1. Says how many it
+/// made.
+pub fn failing<T>(number: u64, work: impl FnOnce() -> T) -> (T, u64) {
+    CALLS.store(0, Ordering::SeqCst);
+    FAILS.store(number, Ordering::SeqCst);
+    COUNTING.store(true, Ordering::SeqCst);
+    let result = work();
+    COUNTING.store(false, Ordering::SeqCst);
+    (result, CALLS.load(Ordering::SeqCst))
+}
+
+/// Has no file grow past this many bytes: the disk is full. 0 takes that back.
+pub fn limit_size(bytes: u64) {
+    SIZE_LIMIT.store(bytes, Ordering::SeqCst);
+}
+
+/// Has each sync take so much longer.
+pub fn delay_sync(delay: Duration) {
+    SYNC_DELAY.store(delay.as_micros() as u64, Ordering::SeqCst);
+}
+
+/// Has the next write call this first.
+pub fn before_write(call: impl FnOnce() + Send + 'static) {
+    *BEFORE_WRITE.lock().expect("nothing panics with it") = Some(Box::new(call));
+}
+
+/// Takes that back, where there was no write.
+pub fn forget_before_write() {
+    drop(BEFORE_WRITE.lock().expect("nothing panics with it").take());
+}
+
+/// Whether this call is the one to fail.
+fn fails() -> bool {
+    COUNTING.load(Ordering::SeqCst) && CALLS.fetch_add(1, Ordering::SeqCst) + 1 == FAILS.load(Ordering::SeqCst)
+}
+
+fn failed(error: c_int) -> c_int {
+    // SAFETY: the C library's errno of this thread.
+    unsafe { *__errno_location() = error };
+    -1
+}
+
+/// Writes at an offset.
+///
+/// # Safety
+///
+/// As the C library's.
+#[unsafe(no_mangle)]
+pub unsafe extern "C" fn pwrite64(file: c_int, bytes: *const c_void, count: usize, offset: i64) -> isize {
+    let call = BEFORE_WRITE.try_lock().ok().and_then(|mut call| call.take());
+    if let Some(call) = call {
+        call();
+    }
+    if fails() {
+        return failed(EIO) as isize;
+    }
+    let limit = SIZE_LIMIT.load(Ordering::SeqCst);
+    if limit > 0 && offset as u64 + count as u64 > limit {
+        return failed(ENOSPC) as isize;
+    }
+    // SAFETY: by the contract.
+    unsafe { syscall(SYS_PWRITE64, file, bytes, count, offset) as isize }
+}
+
+/// Has what was written reach the disk.
+///
+/// # Safety
+///
+/// As the C library's.
+#[unsafe(no_mangle)]
+pub unsafe extern "C" fn fdatasync(file: c_int) -> c_int {
+    if fails() {
+        return failed(EIO);
+    }
+    let delay = SYNC_DELAY.load(Ordering::Relaxed);
+    if delay > 0 {
+        std::thread::sleep(Duration::from_micros(delay));
+    }
+    // SAFETY: by the contract.
+    unsafe { syscall(SYS_FDATASYNC, file) as c_int }
+}
+
+/// Cuts a file short, or lengthens it.
+///
+/// # Safety
+///
+/// As the C library's.
+#[unsafe(no_mangle)]
+pub unsafe extern "C" fn ftruncate64(file: c_int, length: i64) -> c_int {
+    if fails() {
+        return failed(EIO);
+    }
+    // SAFETY: by the contract.
+    unsafe { syscall(SYS_FTRUNCATE, file, length) as c_int }
+}

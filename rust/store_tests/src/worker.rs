@@ -1,0 +1,206 @@
+//! A controller process that follows the protocol on logs that rotate, and notes what it was answered.
+
+use crate::calls;
+use crate::notes::{self, Note, Notes, sum};
+use crate::shared::{Shared, WordStore, open_store};
+use cindrolf::{Answer, Capacity, LedgerNumber, Refusal, Stage, Step};
+use model::random::Random;
+use std::path::{Path, PathBuf};
+use std::time::Duration;
+use store::Error;
+
+/// How a process stores and notes.
+#[derive(Clone, Copy, Debug, PartialEq, Eq)]
+pub enum Mode {
+    /// By the store, noting a write once it is answered.
+    Sound,
+    /// By the store, noting a write as answered before its commit: wrong.
+    AnswersEarly,
+    /// By a store that commits each word by itself: wrong.
+    CommitsWords,
+}
+
+impl Mode {
+    /// The mode of this name.
+    pub fn from_name(name: &str) -> Option<Mode> {
+        match name {
+            "sound" => Some(Mode::Sound),
+            "answers-early" => Some(Mode::AnswersEarly),
+            "commits-words" => Some(Mode::CommitsWords),
+            _ => None,
+        }
+    }
+
+    /// Its name.
+    pub fn name(self) -> &'static str {
+        match self {
+            Mode::Sound => "sound",
+            Mode::AnswersEarly => "answers-early",
+            Mode::CommitsWords => "commits-words",
+        }
+    }
+}
+
+/// The file of a log.
+pub fn log_file(folder: &Path, log: u64) -> PathBuf {
+    folder.join(format!("log-{log:04}.db"))
+}
+
+/// The capacity of a log: every other one is small.
+pub fn capacity_of(log: u64) -> Capacity {
+    if log.is_multiple_of(2) { Capacity::Large } else { Capacity::Small }
+}
+
+/// How many logs there are.
+pub fn log_count(folder: &Path) -> u64 {
+    (0..).find(|&log| !log_file(folder, log).exists()).expect("not all numbers are taken")
+}
+
+/// The log as a process uses it in a mode.
+pub fn open(folder: &Path, log: u64, mode: Mode, clients: u64) -> Result<Box<dyn Shared>, Error> {
+    let (file, capacity) = (log_file(folder, log), capacity_of(log));
+    Ok(match mode {
+        Mode::CommitsWords => Box::new(WordStore::open(&file, clients, capacity)?),
+        _ => Box::new(open_store(&file, clients, capacity)?),
+    })
+}
+
+/// A process, which is also the client of its number.
+pub struct Worker {
+    folder: PathBuf,
+    number: u64,
+    clients: u64,
+    mode: Mode,
+    notes: Notes,
+    random: Random,
+    log: u64,
+    shared: Box<dyn Shared>,
+    /// The next value that it writes.
+    value: u64,
+    /// Whether its last write was refused by the fence.
+    fenced: bool,
+}
+
+impl Worker {
+    /// Goes on where the process of this number was killed.
+    pub fn start(folder: &Path, number: u64, clients: u64, mode: Mode, seed: u64) -> Result<Worker, Error> {
+        let file = |error: std::io::Error| Error::File(error.to_string());
+        let asked = notes::read(folder, number).map_err(file)?.into_iter().filter_map(|note| match note {
+            Note::Asked { value, .. } => Some(value + 1),
+            _ => None,
+        });
+        let value = asked.max().unwrap_or(number << 48);
+        let mut notes = Notes::open(folder, number).map_err(file)?;
+        notes.add(Note::Started).map_err(file)?;
+        let log = log_count(folder).saturating_sub(1);
+        let shared = open(folder, log, mode, clients)?;
+        let folder = folder.to_path_buf();
+        let random = Random::new(seed);
+        Ok(Worker { folder, number, clients, mode, notes, random, log, shared, value, fenced: false })
+    }
+
+    /// Goes on until it is killed, or until something fails.
+    pub fn run(mut self) -> Error {
+        loop {
+            if let Err(error) = self.turn() {
+                return error;
+            }
+        }
+    }
+
+    fn turn(&mut self) -> Result<(), Error> {
+        let log = self.shared.log()?;
+        let Ok(view) = log.view() else {
+            // Only a store that is wrong gets here; the audit finds it.
+            return self.rotate();
+        };
+        let named = view.named_leader() == self.number;
+        let me = view.client(self.number).expect("a client of the log");
+        let step = match me.stage {
+            Stage::Waiting if named => Step::Become,
+            Stage::Waiting => return self.wait(),
+            Stage::Fetching => Step::Fetch,
+            Stage::ClosingLast => Step::CloseLast,
+            Stage::Finishing => Step::Finish,
+            Stage::Creating if !named && self.random.chance(50) => Step::Abdicate,
+            Stage::Creating => Step::Create,
+            Stage::Appending => Step::Append,
+            Stage::Writing if self.fenced || self.random.chance(1) => Step::CloseOwn,
+            // A stale leader goes on too, until the fence.
+            Stage::Writing => return self.write(),
+        };
+        let ledger = me.ledger.map(|ledger| ledger.number);
+        match self.shared.take(self.number, step) {
+            Ok(Answer::Done) if matches!(step, Step::Finish | Step::CloseOwn) => self.closed(ledger),
+            Ok(_) => Ok(()),
+            Err(Error::Refused(Refusal::NoLedgerNumber)) => self.rotate(),
+            Err(Error::Refused(_)) => Ok(()),
+            Err(error) => Err(error),
+        }?;
+        self.fenced &= step != Step::CloseOwn;
+        Ok(())
+    }
+
+    /// A waiting client names itself now and then.
+    fn wait(&mut self) -> Result<(), Error> {
+        if self.random.below(400) == 0 {
+            return match self.shared.take(self.number, Step::Name) {
+                Ok(_) | Err(Error::Refused(_)) => Ok(()),
+                Err(error) => Err(error),
+            };
+        }
+        std::thread::sleep(Duration::from_micros(self.random.between(200, 2_000)));
+        // The others may have gone on to the next log.
+        if self.random.below(50) == 0 && log_file(&self.folder, self.log + 1).exists() {
+            return self.rotate();
+        }
+        Ok(())
+    }
+
+    fn write(&mut self) -> Result<(), Error> {
+        let (log, value) = (self.log, self.value);
+        self.value += 1;
+        self.note(Note::Asked { log, value })?;
+        if self.mode == Mode::AnswersEarly {
+            let mut notes = self.notes.again().map_err(|error| Error::File(error.to_string()))?;
+            calls::before_write(move || {
+                let _ = notes.add(Note::Stored { log, value, at: None });
+                std::thread::sleep(Duration::from_micros(200));
+            });
+        }
+        let answer = self.shared.take(self.number, Step::Write(value));
+        calls::forget_before_write();
+        match answer {
+            Ok(Answer::Stored(at)) => {
+                let at = Some((at.number.0, at.place.0));
+                if self.mode == Mode::AnswersEarly { Ok(()) } else { self.note(Note::Stored { log, value, at }) }
+            }
+            Ok(other) => Err(Error::Damaged(format!("a write was answered {other}"))),
+            Err(Error::Refused(refusal)) => {
+                self.note(Note::Refused { log, value })?;
+                self.fenced = refusal == Refusal::LedgerFenced;
+                if refusal == Refusal::LogFull { self.rotate() } else { Ok(()) }
+            }
+            Err(error) => Err(error),
+        }
+    }
+
+    /// Notes what a ledger holds that it has just closed.
+    fn closed(&mut self, ledger: Option<LedgerNumber>) -> Result<(), Error> {
+        let Some(ledger) = ledger else { return Ok(()) };
+        let words = self.shared.log()?.read_ledger(ledger)?;
+        let (entries, sum) = (words.len() as u64, sum(words));
+        self.note(Note::Closed { log: self.log, ledger: ledger.0, entries, sum })
+    }
+
+    fn rotate(&mut self) -> Result<(), Error> {
+        self.log += 1;
+        self.fenced = false;
+        self.shared = open(&self.folder, self.log, self.mode, self.clients)?;
+        Ok(())
+    }
+
+    fn note(&mut self, note: Note) -> Result<(), Error> {
+        self.notes.add(note).map_err(|error| Error::File(error.to_string()))
+    }
+}

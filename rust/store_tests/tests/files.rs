@@ -1,0 +1,340 @@
+//! Files that are no log, or no longer one: each is refused, and left as it is.
+
+use cindrolf::{Capacity, Right, Step};
+use model::random::Random;
+use std::fs;
+use std::path::Path;
+use store::database::{Database, Mode, Value};
+use store::{Error, PATIENCE, Store, Stored};
+use store_tests::kinds::{changes, prepared};
+use store_tests::scratch::Scratch;
+
+/// A log with every kind of row, in one file.
+fn all_kinds(file: &Path) -> i64 {
+    let mut store = Store::create(file, 3, Capacity::Small).unwrap();
+    let lead = [Step::Become, Step::Fetch, Step::Create, Step::Append];
+    for step in lead.into_iter().chain((0..5).map(|value| Step::Write(value * 1_000_003))) {
+        let _ = store.take(0, step).unwrap();
+    }
+    store.write_scores(0, &[40, 372]).unwrap();
+    store.set_mark("wash".parse().unwrap()).unwrap();
+    store.set_mark("elution".parse().unwrap()).unwrap();
+    store.drop_mark("wash".parse().unwrap()).unwrap();
+    store.revoke(2, Right::Name).unwrap();
+    let steps = [Step::Name, Step::Become, Step::Fetch, Step::CloseLast, Step::Finish, Step::Create, Step::Append];
+    for step in steps.into_iter().chain([Step::Write(7), Step::CloseOwn]) {
+        let _ = store.take(1, step).unwrap();
+    }
+    let _ = store.take(0, Step::CloseOwn).unwrap();
+    let rows = store.check().unwrap();
+    drop(store);
+    assert!(!file.with_extension("db-wal").exists());
+    rows
+}
+
+/// Whether a file is refused; where it is, no byte of it has changed.
+fn refused(file: &Path) -> Result<i64, Error> {
+    let before = fs::read(file).unwrap();
+    let result = Store::open(file).and_then(|mut store| store.check());
+    if result.is_err() {
+        assert!(fs::read(file).unwrap() == before, "a refused file was changed");
+    }
+    result
+}
+
+/// All that SQLite reads in the file.
+fn content(file: &Path) -> Result<Vec<String>, store::Fault> {
+    let database = Database::open(file, Mode::Existing, PATIENCE)?;
+    let mut lines = Vec::new();
+    for table in ["sqlite_schema", "log", "fresh_words", "journal"] {
+        database.prepare(&format!("SELECT * FROM {table} ORDER BY 1, 2"))?.each(&[], |row| {
+            lines.push(format!("{table} {:?}", (0..12).map(|column| row.value(column)).collect::<Vec<Value<'_>>>()));
+            Ok::<(), store::Fault>(())
+        })?;
+    }
+    Ok(lines)
+}
+
+#[test]
+fn no_logs() {
+    let room = Scratch::new();
+    let file = room.file("x");
+    assert_eq!(Store::open(&file).err(), Some(Error::Missing));
+    assert_eq!(Store::open(room.folder()).err(), Some(Error::NoLog("it is a folder".into())));
+    assert_eq!(Store::create(room.folder(), 1, Capacity::Large).err(), Some(Error::Exists));
+    fs::write(&file, "a text that is no database, and long enough to have the header of one".repeat(9)).unwrap();
+    assert_eq!(refused(&file), Err(Error::NoLog("it is no file of SQLite".into())));
+    assert_eq!(Store::create(&file, 1, Capacity::Large).err(), Some(Error::Exists));
+    let other = room.file("other.db");
+    Database::open(&other, Mode::Create, PATIENCE).unwrap().execute("CREATE TABLE t (x)").unwrap();
+    let before = fs::read(&other).unwrap();
+    assert!(matches!(refused(&other), Err(Error::NoLog(why)) if why.starts_with("its application id is 0")));
+    assert_eq!(Store::create(&other, 1, Capacity::Large).err(), Some(Error::Exists));
+    assert_eq!(fs::read(&other).unwrap(), before);
+    for clients in [0, 17] {
+        let none = Store::create(room.file("none.db"), clients, Capacity::Large).err();
+        assert_eq!(none, Some(Error::Refused(cindrolf::Refusal::ClientCount)));
+        assert!(!room.file("none.db").exists());
+    }
+}
+
+#[test]
+fn other_versions() {
+    let room = Scratch::new();
+    let file = room.file("run.db");
+    all_kinds(&file);
+    let set = |text: &str| Database::open(&file, Mode::Existing, PATIENCE).unwrap().execute(text).unwrap();
+    set("PRAGMA user_version = 2");
+    assert!(matches!(refused(&file), Err(Error::NoLog(why)) if why == "its interface number is 2, and not 3"));
+    set("PRAGMA user_version = 3");
+    set("PRAGMA application_id = 7");
+    assert!(matches!(refused(&file), Err(Error::NoLog(why)) if why.starts_with("its application id is 7")));
+}
+
+#[test]
+fn a_creation_that_was_not_finished() {
+    let room = Scratch::new();
+    let (empty, begun) = (room.file("empty.db"), room.file("begun.db"));
+    fs::write(&empty, "").unwrap();
+    let database = Database::open(&begun, Mode::Create, PATIENCE).unwrap();
+    database.text("PRAGMA journal_mode = WAL").unwrap();
+    drop(database);
+    for file in [empty, begun] {
+        assert_eq!(Store::open(&file).err(), Some(Error::Unfinished));
+        assert_eq!(Store::create(&file, 2, Capacity::Small).unwrap().name(1), Ok(()));
+        assert_eq!(Store::open(&file).unwrap().check(), Ok(1));
+    }
+}
+
+/// Runs a statement on a copy of the file, past the triggers, and has it checked.
+fn changed(file: &Path, room: &Scratch, statement: &str) -> Result<i64, Error> {
+    let copy = room.file("changed.db");
+    fs::copy(file, &copy).unwrap();
+    let database = Database::open(&copy, Mode::Existing, PATIENCE).unwrap();
+    let triggers = ["journal_is_not_changed", "journal_is_not_shortened"];
+    let text =
+        |name: &str| database.text(&format!("SELECT sql FROM sqlite_schema WHERE name = '{name}'")).unwrap().unwrap();
+    let kept = triggers.map(text);
+    for name in triggers {
+        database.execute(&format!("DROP TRIGGER {name}")).unwrap();
+    }
+    database.execute(statement).unwrap();
+    for text in kept {
+        database.execute(&text).unwrap();
+    }
+    drop(database);
+    refused(&copy)
+}
+
+#[test]
+fn rows_that_do_not_hold_together() {
+    let room = Scratch::new();
+    let file = room.file("run.db");
+    let rows = all_kinds(&file);
+    assert_eq!(changed(&file, &room, "SELECT 1"), Ok(rows));
+    let damaged = |statement: &str, says: &str| match changed(&file, &room, statement) {
+        Err(Error::Damaged(why)) => assert!(why.contains(says), "{statement}: {why}"),
+        other => panic!("{statement}: {other:?}"),
+    };
+    damaged("DELETE FROM journal WHERE seq = 4", "row 4 of its journal is missing");
+    damaged("UPDATE journal SET client = 1 WHERE seq = 5", "row 5 of its journal was changed");
+    damaged("UPDATE journal SET kind = 14 WHERE seq = 5", "row 5 of its journal is none");
+    damaged("UPDATE journal SET input = x'00' WHERE kind = 11", "was changed");
+    damaged("DELETE FROM log", "its table log has no row");
+    damaged("UPDATE log SET client_count = 2", "fresh_words is not that of a fresh log");
+    damaged("UPDATE log SET entry_words = 100", "no log has 3 clients and 100 entry words");
+    damaged("UPDATE fresh_words SET word = 1 WHERE at = 1", "fresh_words is not that of a fresh log");
+    damaged("DROP VIEW chain", "it has no chain");
+    damaged("CREATE TABLE t (x)", "t is not as it was made");
+    // The triggers keep a journal from being changed by mistake.
+    let database = Database::open(&file, Mode::Existing, PATIENCE).unwrap();
+    let fault = database.execute("UPDATE journal SET client = 1").unwrap_err();
+    assert_eq!(fault.message, "the journal of a run log is not changed");
+    assert!(database.execute("DELETE FROM journal").is_err());
+}
+
+// Any bit of any number or bytes of a row.
+#[test]
+fn single_bits_of_rows() {
+    let room = Scratch::new();
+    let file = room.file("run.db");
+    let rows = all_kinds(&file) as u64;
+    let columns = ["kind", "client", "input", "answer", "at1", "word1", "at2", "word2", "at3", "word3", "checksum"];
+    let mut random = Random::new(1);
+    let mut found = 0;
+    while found < 300 {
+        let (row, column) = (random.between(1, rows), random.pick(&columns));
+        let bit = 1_u64 << random.below(64);
+        let where_it_is = format!("seq = {row} AND typeof({column}) = 'integer'");
+        let database = Database::open(&file, Mode::Existing, PATIENCE).unwrap();
+        let there = database.number(&format!("SELECT count(*) FROM journal WHERE {where_it_is}")).unwrap();
+        drop(database);
+        if there == Some(1) {
+            let flip = format!("({column} | {0}) - ({column} & {0})", bit as i64);
+            let result = changed(&file, &room, &format!("UPDATE journal SET {column} = {flip} WHERE {where_it_is}"));
+            assert!(matches!(result, Err(Error::Damaged(_))), "bit {bit:#x} of {column} in row {row}: {result:?}");
+            found += 1;
+        }
+    }
+}
+
+// Any bit of the file: it is found, or what SQLite reads is the same.
+#[test]
+fn single_bits_of_the_file() {
+    let room = Scratch::new();
+    let file = room.file("run.db");
+    let rows = all_kinds(&file);
+    let (whole, before) = (fs::read(&file).unwrap(), content(&file).unwrap());
+    let mut random = Random::new(2);
+    let (mut found, copy) = (0, room.file("flipped.db"));
+    for _ in 0..600 {
+        let (at, bit) = (random.below(whole.len() as u64) as usize, random.below(8));
+        let mut bytes = whole.clone();
+        bytes[at] ^= 1 << bit;
+        for suffix in ["db-wal", "db-shm", "db-journal"] {
+            let _ = fs::remove_file(copy.with_extension(suffix));
+        }
+        fs::write(&copy, &bytes).unwrap();
+        match refused(&copy) {
+            Err(_) => found += 1,
+            Ok(count) => {
+                assert_eq!(count, rows, "bit {bit} of byte {at}");
+                assert!(content(&copy).unwrap() == before, "bit {bit} of byte {at}");
+            }
+        }
+    }
+    assert!(found > 100, "{found} of 600 were found");
+}
+
+#[test]
+fn a_file_cut_short() {
+    let room = Scratch::new();
+    let file = room.file("run.db");
+    all_kinds(&file);
+    let whole = fs::read(&file).unwrap();
+    let copy = room.file("cut.db");
+    for length in (1..whole.len()).step_by(1_021) {
+        fs::write(&copy, &whole[..length]).unwrap();
+        assert!(refused(&copy).is_err(), "{length} of {} bytes", whole.len());
+        for suffix in ["db-wal", "db-shm"] {
+            let _ = fs::remove_file(copy.with_extension(suffix));
+        }
+    }
+}
+
+// A killed writer leaves its write-ahead log: what was acknowledged is in it. Cut short, it leaves a first part of the
+// steps.
+#[test]
+fn a_leftover_write_ahead_log() {
+    let room = Scratch::new();
+    let file = room.file("run.db");
+    let mut store = prepared(&file, &changes()[8].before);
+    for value in 0..50 {
+        store.write(0, value).unwrap();
+    }
+    let log = fs::read(file.with_extension("db-wal")).unwrap();
+    let copy = room.file("left.db");
+    let mut last = 0;
+    for length in (0..=log.len()).rev().step_by(5_003) {
+        fs::copy(&file, &copy).unwrap();
+        fs::write(copy.with_extension("db-wal"), &log[..length]).unwrap();
+        let left = match Store::open(&copy) {
+            Ok(mut left) => left.check().unwrap(),
+            // Its creation is the first that the write-ahead log has.
+            Err(Error::Unfinished) => 0,
+            Err(error) => panic!("{length} of {} bytes: {error}", log.len()),
+        };
+        assert!(if length == log.len() { left == 54 } else { left <= last }, "{length} bytes left {left} rows");
+        last = left;
+        let _ = fs::remove_file(copy.with_extension("db-shm"));
+    }
+    assert_eq!(last, 0);
+    store.check().unwrap();
+}
+
+unsafe extern "C" {
+    fn syscall(number: i64, ...) -> i64;
+}
+
+/// Works as a user who is not root, so that the modes of files count. Only this thread changes.
+fn as_a_user<T>(work: impl FnOnce() -> T) -> T {
+    const SETRESUID: i64 = 117;
+    const NOBODY: i64 = 65_534;
+    // SAFETY: this sets the user of this thread. It fails where that is not root, whom modes bind anyway.
+    unsafe { syscall(SETRESUID, -1_i64, NOBODY, -1_i64) };
+    let result = work();
+    // SAFETY: as above.
+    unsafe { syscall(SETRESUID, -1_i64, 0_i64, -1_i64) };
+    result
+}
+
+fn mode(path: &Path, mode: u32) {
+    use std::os::unix::fs::PermissionsExt;
+    fs::set_permissions(path, fs::Permissions::from_mode(mode)).unwrap();
+}
+
+#[test]
+fn a_read_only_file() {
+    let room = Scratch::new();
+    let file = room.file("run.db");
+    let rows = all_kinds(&file);
+    mode(&file, 0o444);
+    mode(room.folder(), 0o777);
+    as_a_user(|| {
+        let mut store = Store::open(&file).unwrap();
+        assert_eq!(store.latest().unwrap().rows(), rows);
+        let error = store.name(0).unwrap_err();
+        assert_eq!(error.stored(), Stored::No);
+        assert!(error.to_string().starts_with("not stored: the file or its folder cannot be written"), "{error}");
+        assert_eq!(store.latest().unwrap().rows(), rows);
+    });
+}
+
+// A log that others write keeps two files beside it, and cannot be read where they cannot be; a copy is one file.
+#[test]
+fn a_read_only_folder() {
+    let room = Scratch::new();
+    let (file, copy) = (room.file("run.db"), room.file("copy.db"));
+    let rows = all_kinds(&file);
+    Store::open(&file).unwrap().copy_to(&copy).unwrap();
+    mode(room.folder(), 0o555);
+    as_a_user(|| {
+        let error = Store::open(&file).err().expect("no folder to write in");
+        assert!(error.to_string().contains("the file or its folder cannot be written"), "{error}");
+        let mut store = Store::open(&copy).unwrap();
+        assert_eq!(store.check(), Ok(rows));
+        assert_eq!(store.name(0).unwrap_err().stored(), Stored::No);
+        assert!(Store::create(room.file("new.db"), 1, Capacity::Large).is_err());
+    });
+    mode(room.folder(), 0o755);
+    assert!(!room.file("new.db").exists());
+}
+
+#[test]
+fn a_copy_while_others_write() {
+    let room = Scratch::new();
+    let (file, copy) = (room.file("run.db"), room.file("copy.db"));
+    let mut store = prepared(&file, &changes()[8].before);
+    let end = std::sync::atomic::AtomicBool::new(false);
+    std::thread::scope(|scope| {
+        scope.spawn(|| {
+            let mut other = Store::open(&file).unwrap();
+            for value in 0.. {
+                if end.load(std::sync::atomic::Ordering::Relaxed) || other.write(0, value).is_err() {
+                    break;
+                }
+            }
+        });
+        while store.latest().unwrap().rows() < 50 {}
+        store.copy_to(&copy).unwrap();
+        assert_eq!(store.copy_to(&copy), Err(Error::Exists));
+        end.store(true, std::sync::atomic::Ordering::Relaxed);
+    });
+    let mut copied = Store::open(&copy).unwrap();
+    let rows = copied.check().unwrap();
+    assert!((50..=store.latest().unwrap().rows()).contains(&rows));
+    // It is a log that goes on from there.
+    assert_eq!(copied.write(0, 1).unwrap().number.0 as i64, rows - 4);
+    let names: Vec<_> = fs::read_dir(room.folder()).unwrap().map(|file| file.unwrap().file_name()).collect();
+    assert!(names.iter().all(|name| !name.to_string_lossy().contains("part")), "{names:?}");
+}
