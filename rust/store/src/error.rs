@@ -36,7 +36,9 @@ pub enum Error {
     JournalFull,
     /// The store was opened in another process, and this one is forked from that. It has to open the file itself.
     Forked,
-    /// A file could not be written. This is why.
+    /// The file was removed since it was opened, or another has its name. The store is to be opened anew.
+    Replaced,
+    /// A file could not be read or written. This is why.
     File(String),
     /// SQLite failed.
     Engine {
@@ -115,6 +117,7 @@ impl fmt::Display for Error {
             Error::Damaged(why) => write!(f, "the log is damaged: {why}"),
             Error::JournalFull => write!(f, "the log has {} steps, the most that one takes", crate::MOST_ROWS),
             Error::Forked => f.write_str("the log was opened before this process was forked; open it anew"),
+            Error::Replaced => f.write_str("the file was removed or replaced since it was opened"),
             Error::File(why) => f.write_str(why),
             Error::Engine { stored, fault } => {
                 let stored = match stored {

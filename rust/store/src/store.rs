@@ -8,6 +8,8 @@ use crate::{Error, MOST_ROWS, schema};
 use cindrolf::{
     Answer, Capacity, CloseLast, Finish, MarkName, Position, Progress, Refusal, Right, Rights, Step, StepWord,
 };
+use std::io::ErrorKind;
+use std::os::unix::fs::MetadataExt;
 use std::path::{Path, PathBuf};
 use std::thread::sleep;
 use std::time::{Duration, Instant};
@@ -21,6 +23,8 @@ pub const PATIENCE: Duration = Duration::from_secs(10);
 /// stores nothing. See the [crate](crate) for an example.
 pub struct Store {
     path: PathBuf,
+    /// The device and the number of the file: another file of the same name is another log.
+    file: (u64, u64),
     process: u32,
     patience: Duration,
     link: Option<Link>,
@@ -81,20 +85,20 @@ impl Store {
         }
         schema::create(&database, &fresh, client_count)?;
         database.execute("COMMIT").map_err(|fault| Error::from(fault).at_commit())?;
-        Ok(Store { link: Some(Link::over(database, PATIENCE)?), ..Store::at(path) })
+        Ok(Store { link: Some(Link::over(database, PATIENCE)?), ..Store::at(path)? })
     }
 
     /// Opens the log in a file, and sees that it holds together.
     pub fn open(path: impl AsRef<Path>) -> Result<Store, Error> {
-        let mut store = Store::at(path.as_ref());
+        let mut store = Store::at(path.as_ref())?;
         store.link()?;
         Ok(store)
     }
 
     /// The store of a file that is still to be opened.
-    fn at(path: &Path) -> Store {
-        let process = std::process::id();
-        Store { path: path.into(), process, patience: PATIENCE, link: None, stale: false, full: false }
+    fn at(path: &Path) -> Result<Store, Error> {
+        let (process, file) = (std::process::id(), number_of(path)?);
+        Ok(Store { path: path.into(), file, process, patience: PATIENCE, link: None, stale: false, full: false })
     }
 
     /// How long a call waits for the lock of another process before it fails, from the next call on.
@@ -162,12 +166,10 @@ impl Store {
     pub fn set_rights(&mut self, rights: &Rights) -> Result<(), Error> {
         self.change(|change| {
             let before = *change.copy.rights.words();
-            for (client, (&word, _)) in
-                (0..).zip(rights.words().iter().zip(before)).filter(|(_, (now, then))| *now != then)
-            {
-                change.record(|copy| copy.set_rights(client, word))?;
-            }
-            Ok(())
+            let words = (0..).zip(rights.words().iter().zip(before));
+            words
+                .filter(|(_, (now, then))| *now != then)
+                .try_for_each(|(client, (&word, _))| change.record(|copy| copy.set_rights(client, word)))
         })
     }
 
@@ -213,6 +215,10 @@ impl Store {
     fn link(&mut self) -> Result<&mut Link, Error> {
         if self.process != std::process::id() {
             return Err(Error::Forked);
+        }
+        // SQLite would go on writing to a file that has no name any more.
+        if number_of(&self.path) != Ok(self.file) {
+            return Err(Error::Replaced);
         }
         if let Some(link) = &mut self.link
             && self.full
@@ -287,6 +293,16 @@ fn input_of(step: Step) -> Input {
     }
 }
 
+/// The device and the number of a file.
+fn number_of(path: &Path) -> Result<(u64, u64), Error> {
+    match std::fs::metadata(path) {
+        Ok(file) if file.is_dir() => Err(Error::NoLog("it is a folder".into())),
+        Ok(file) => Ok((file.dev(), file.ino())),
+        Err(error) if error.kind() == ErrorKind::NotFound => Err(Error::Missing),
+        Err(error) => Err(Error::File(error.to_string())),
+    }
+}
+
 /// Has the file keep a write-ahead log, if that can be had. SQLite does not wait for the lock that it takes here.
 fn write_ahead(database: &Database, patience: Duration) -> Result<bool, Error> {
     let since = Instant::now();
@@ -300,11 +316,6 @@ fn write_ahead(database: &Database, patience: Duration) -> Result<bool, Error> {
 
 impl Link {
     fn open(path: &Path, patience: Duration) -> Result<Self, Error> {
-        match std::fs::metadata(path) {
-            Err(error) if error.kind() == std::io::ErrorKind::NotFound => return Err(Error::Missing),
-            Ok(file) if file.is_dir() => return Err(Error::NoLog("it is a folder".into())),
-            _ => {}
-        }
         Link::over(Database::open(path, Mode::Existing, patience)?, patience)
     }
 

@@ -310,6 +310,22 @@ fn a_read_only_folder() {
     assert!(!room.file("new.db").exists());
 }
 
+// SQLite itself goes on writing to a file that was removed.
+#[test]
+fn a_file_that_was_replaced() {
+    let room = Scratch::new();
+    let file = room.file("run.db");
+    let mut store = prepared(&file, &changes()[8].before);
+    fs::remove_file(&file).unwrap();
+    assert_eq!(store.write(0, 1), Err(Error::Replaced));
+    drop(Store::create(&file, 2, Capacity::Large).unwrap());
+    for _ in 0..2 {
+        assert_eq!(store.write(0, 1), Err(Error::Replaced));
+        assert_eq!(store.latest().err(), Some(Error::Replaced));
+    }
+    assert_eq!(Store::open(&file).unwrap().latest().unwrap().rows(), 0);
+}
+
 #[test]
 fn a_copy_while_others_write() {
     let room = Scratch::new();
