@@ -98,7 +98,9 @@ impl Store {
     /// The store of a file that is still to be opened.
     fn at(path: &Path) -> Result<Store, Error> {
         let (process, file) = (std::process::id(), number_of(path)?);
-        Ok(Store { path: path.into(), file, process, patience: PATIENCE, link: None, stale: false, full: false })
+        // It stays the same file where the process goes to another folder.
+        let path = std::path::absolute(path).unwrap_or_else(|_| path.into());
+        Ok(Store { path, file, process, patience: PATIENCE, link: None, stale: false, full: false })
     }
 
     /// How long a call waits for the lock of another process before it fails, from the next call on.
