@@ -4,4 +4,5 @@ mod count;
 pub mod forecast;
 mod refusal;
 pub mod run;
+mod stretch;
 pub mod word;

@@ -7,9 +7,9 @@ ghost use Rattle.chain.specs.Plans.{wordStep};
 ghost use Rattle.plans.specs.Words.{Numbered, Tells, WordResult};
 
 // The unit of each field: its lowest bit.
-const NUMBER_UNIT: u64 = 1 << 60;
+pub const NUMBER_UNIT: u64 = 1 << 60;
 
-const CLIENT_UNIT: u64 = 1 << 52;
+pub const CLIENT_UNIT: u64 = 1 << 52;
 
 // A step to take, or a number that is none.
 pub enum Planned {
