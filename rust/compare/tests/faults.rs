@@ -525,6 +525,38 @@ fn refuses_a_value(call: Call, lent: &mut Lent) -> Outcome {
     with_plan(call, lent, |word| if word >> 60 != 8 && word << 12 != 0 { u64::MAX } else { word })
 }
 
+// A write behind a write that is done is taken for one of the same client.
+fn writes_on_for_another_client(call: Call, lent: &mut Lent) -> Outcome {
+    let (Call::RunPlan(budget) | Call::Forecast(budget)) = call else { return call::model(call, lent) };
+    let plan = lent.plan.to_vec();
+    let answers = planned_answers(lent, budget);
+    for place in 1..answers.len() {
+        let ((before, answer), (word, _)) = (answers[place - 1], answers[place]);
+        if matches!(answer, Answer::Entry { .. }) && word >> 60 == 8 {
+            lent.plan[place] = (before >> 52 << 52) | (word << 12 >> 12);
+        }
+    }
+    let outcome = call::model(call, lent);
+    lent.plan.copy_from_slice(&plan);
+    outcome
+}
+
+// A write behind a write that is done is counted as an entry, also where the log is full.
+fn writes_on_in_a_full_log(call: Call, lent: &mut Lent) -> Outcome {
+    let mut writes = false;
+    match (call, call::model(call, lent)) {
+        (Call::Forecast(budget), Outcome::Forecast(mut counts)) => {
+            for (_, answer) in planned_answers(lent, budget) {
+                counts.entries += u64::from(writes && answer == Answer::Refused(13));
+                counts.refusals -= u64::from(writes && answer == Answer::Refused(13));
+                writes = matches!(answer, Answer::Entry { .. });
+            }
+            Outcome::Forecast(counts)
+        }
+        (_, outcome) => outcome,
+    }
+}
+
 // The forecast takes the run.
 fn forecast_changes_the_log(call: Call, lent: &mut Lent) -> Outcome {
     let outcome = call::model(call, lent);
@@ -556,6 +588,8 @@ fn finds_wrong_plans() {
         let report = first(compare, forecast_changes_the_log, 300).expect("the fault is found");
         assert!(report.contains("Forecast(") && report.contains("  state word "), "{report}");
     }
+    let report = first(histories::compare, writes_on_for_another_client, 300).expect("the fault is found");
+    assert!(report.contains("Forecast(") || report.contains("RunPlan("), "{report}");
 }
 
 #[test]
@@ -575,6 +609,9 @@ fn finds_wrong_forecasts() {
         let report = first(compare, forecasts_the_whole_plan, 300).expect("the fault is found");
         assert!(report.starts_with("Forecast("), "{report}");
     }
+    // Few histories fill a log.
+    let report = first(buffers::compare, writes_on_in_a_full_log, 1000).expect("the fault is found");
+    assert!(report.contains("Forecast("), "{report}");
 }
 
 // A history's log is well formed, so this shows only on other buffers.
