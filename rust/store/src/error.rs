@@ -124,21 +124,24 @@ impl fmt::Display for Error {
                     Stored::No => "not stored",
                     Stored::Unknown => "it is not known whether the step is stored",
                 };
-                write!(f, "{stored}: {} (SQLite's code {})", told(fault), fault.code)
+                write!(f, "{stored}: {fault}")
             }
         }
     }
 }
 
-/// What a fault means here, where SQLite's own words would not tell.
-fn told(fault: &Fault) -> &str {
-    match fault.primary() {
-        sqlite::BUSY => "another process held the log for longer than this one waits",
-        sqlite::FULL => "the disk is full",
-        sqlite::READONLY => "the file or its folder cannot be written",
-        sqlite::CANTOPEN => "the file, or one that SQLite keeps beside it, cannot be opened",
-        sqlite::IOERR => "the disk failed",
-        _ => &fault.message,
+/// What it means here, where SQLite's own words would not tell, and its code.
+impl fmt::Display for Fault {
+    fn fmt(&self, f: &mut fmt::Formatter<'_>) -> fmt::Result {
+        let told = match self.primary() {
+            sqlite::BUSY => "another process held the log for longer than this one waits",
+            sqlite::FULL => "the disk is full",
+            sqlite::READONLY => "the file or its folder cannot be written",
+            sqlite::CANTOPEN => "the file, or one that SQLite keeps beside it, cannot be opened",
+            sqlite::IOERR => "the disk failed",
+            _ => &self.message,
+        };
+        write!(f, "{told} (SQLite's code {})", self.code)
     }
 }
 
