@@ -134,8 +134,10 @@ sum() { # FILE..
 }
 
 # What a build rests on: the sources and the kit. Where there is no kit nothing can be built, so what is there stays good.
+inputs='crates crates.txt'
 sources() { # RECORD
-    sum crates crates.txt
+    # shellcheck disable=SC2086
+    sum $inputs
     if command -v rt >/dev/null 2>&1; then rt version; else sed -n 2p "$1" 2>/dev/null; fi
 }
 

@@ -1,0 +1,79 @@
+//! Why a command was not done: what is said of it, and the exit status.
+
+use std::io;
+use std::path::{Path, PathBuf};
+use std::process::ExitCode;
+use store::Error;
+
+/// Why a command was not done.
+pub enum Failure {
+    /// The arguments are wrong. The text says how, and what they should be.
+    Arguments(String),
+    /// The log in this file, or the disk that it is on.
+    File(PathBuf, String),
+    /// Standard input.
+    Input(io::Error),
+    /// Standard output.
+    Output(io::Error),
+    /// Standard output, and the line that could not be printed: a reply to what may be stored.
+    Reply(String, io::Error),
+}
+
+impl Failure {
+    /// A log that could not be opened or read.
+    pub fn of_reading(file: &Path, error: Error) -> Self {
+        let why = match error {
+            // There was nothing to store.
+            Error::Engine { fault, .. } => fault.to_string(),
+            error => error.to_string(),
+        };
+        Failure::File(file.into(), why)
+    }
+
+    /// A file that could not be made.
+    pub fn of_making(file: &Path, error: Error) -> Self {
+        let folder = file.parent().filter(|folder| !folder.as_os_str().is_empty());
+        match folder.filter(|folder| !folder.is_dir()) {
+            Some(folder) => Failure::File(file.into(), format!("there is no folder {}", folder.display())),
+            None => Self::of_reading(file, error),
+        }
+    }
+
+    /// A change that gave no answer.
+    pub fn of_change(file: &Path, error: Error) -> Self {
+        Failure::File(file.into(), error.to_string())
+    }
+
+    /// A line of steps that gave no answer, and whether its step is stored.
+    pub fn of_line(file: &Path, number: u64, line: &str, error: Error) -> Self {
+        let why = match error {
+            Error::Engine { .. } => error.to_string(),
+            error => format!("not stored: {error}"),
+        };
+        Failure::File(file.into(), format!("line {number}, {line}: {why}"))
+    }
+
+    /// A copy that was not made, by the file that is at fault.
+    pub fn of_copy(file: &Path, to: &Path, error: Error) -> Self {
+        match error {
+            Error::Damaged(_) | Error::NoLog(_) => Self::of_reading(file, error),
+            error => Self::of_making(to, error),
+        }
+    }
+
+    /// Says it on standard error, and gives the status. A reader that has gone away wants to hear nothing.
+    pub fn report(self) -> ExitCode {
+        match self {
+            Failure::Arguments(text) => {
+                eprintln!("log: {text}");
+                return ExitCode::from(2);
+            }
+            Failure::File(file, why) => eprintln!("log: {}: {why}", file.display()),
+            Failure::Input(error) => eprintln!("log: standard input: {error}"),
+            Failure::Output(error) | Failure::Reply(_, error) if error.kind() == io::ErrorKind::BrokenPipe => {}
+            Failure::Output(error) => eprintln!("log: standard output: {error}"),
+            Failure::Reply(line, error) => eprintln!("log: standard output: {error}; not printed: {line}"),
+        }
+        ExitCode::FAILURE
+    }
+}

@@ -1,0 +1,53 @@
+//! What is read of a log in a line or a few: the chain, the run total, the advice, the check.
+
+use crate::names;
+use cindrolf::{LedgerNumber, MarkName, client_of, value_of};
+use session::{exact, rounded};
+use std::fmt::Write;
+use store::{Error, Store};
+
+/// The chain line of the session program, as it is now or was at a mark.
+pub fn chain(store: &mut Store, at: Option<MarkName>) -> Result<String, Error> {
+    let latest = store.latest()?;
+    let words = match at {
+        Some(name) => latest.read_mark(name)?,
+        None => latest.chain()?,
+    };
+    let mut text = String::from("chain");
+    for word in words {
+        let _ = write!(text, " {}:{}", client_of(word), value_of(word));
+    }
+    Ok(text + "\n")
+}
+
+/// What the program of the run total prints.
+pub fn total(store: &mut Store) -> Result<String, Error> {
+    let (mut text, mut total) = (String::new(), 0);
+    for ledger in store.latest()?.sums()? {
+        let LedgerNumber(number) = ledger.ledger;
+        let _ = writeln!(text, "ledger {number} entries {} sum {}", ledger.entries, exact(ledger.sum));
+        total += ledger.sum;
+    }
+    let _ = write!(text, "total {}\nrounded {}\n", exact(total), rounded(total));
+    Ok(text)
+}
+
+/// The step that a client should take next; where there is none, who is named.
+pub fn advice(store: &mut Store, client: u64) -> Result<String, Error> {
+    let latest = store.latest()?;
+    Ok(match latest.log().advise(client)? {
+        Some(advice) => {
+            let (letter, name) = names::advice(advice);
+            format!("{letter} {name}\n")
+        }
+        None => format!("none: client {} is named\n", latest.view()?.named_leader()),
+    })
+}
+
+/// That the file holds together, and how many rows its journal has.
+pub fn check(store: &mut Store) -> Result<String, Error> {
+    Ok(match store.check()? {
+        1 => "ok, 1 row\n".into(),
+        rows => format!("ok, {rows} rows\n"),
+    })
+}

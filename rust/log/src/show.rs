@@ -1,0 +1,117 @@
+//! A log for a person: who is named, who leads and at what stage, the ledgers with their counts, the marks.
+
+use crate::failure::Failure;
+use crate::table::{Side, Table};
+use crate::{marks, names};
+use cindrolf::{Ledger, LedgerNumber, Right, client_of};
+use session::exact;
+use std::fmt::Write;
+use std::path::Path;
+use store::{Error, Latest, Store};
+
+/// The most ledgers that a log creates.
+const MOST_LEDGERS: u64 = 255;
+
+/// All that is shown of a log, as it is now.
+pub fn text(file: &Path, store: &mut Store) -> Result<String, Failure> {
+    let parts = |store: &mut Store| {
+        let latest = store.latest()?;
+        Ok(summary(latest)? + "\n" + &clients(latest)? + &ledgers(latest)? + &mark_table(latest))
+    };
+    let parts: Result<String, Error> = parts(store);
+    let parts = parts.map_err(|error| Failure::of_reading(file, error))?;
+    Ok(format!("file          {}\n{parts}", file.display()))
+}
+
+fn summary(latest: Latest<'_>) -> Result<String, Error> {
+    let view = latest.view()?;
+    let created = created(latest)?;
+    let mut text = String::new();
+    let _ = writeln!(text, "clients       {}", view.client_count());
+    let _ = writeln!(text, "entries       {} of {}", view.entry_count(), view.capacity().words());
+    let _ = writeln!(text, "ledgers       {created} of {MOST_LEDGERS} created, {} listed", view.list_length());
+    let _ = writeln!(text, "named leader  client {}", view.named_leader());
+    Ok(text)
+}
+
+fn created(latest: Latest<'_>) -> Result<u64, Error> {
+    Ok(latest.view()?.next_ledger().map_or(MOST_LEDGERS, |LedgerNumber(next)| next - 1))
+}
+
+fn clients(latest: Latest<'_>) -> Result<String, Error> {
+    let view = latest.view()?;
+    let mut entries = [0; cindrolf::MAX_CLIENTS as usize];
+    for word in latest.chain()? {
+        entries[client_of(word) as usize] += 1;
+    }
+    let mut table = Table::new([
+        ("client", Side::Right),
+        ("named", Side::Left),
+        ("leads", Side::Left),
+        ("stage", Side::Left),
+        ("ledger", Side::Right),
+        ("entries", Side::Right),
+        ("lacks rights", Side::Left),
+    ]);
+    for ((number, client), entries) in (0..).zip(view.clients()).zip(entries) {
+        table.add([
+            number.to_string(),
+            yes(number == view.named_leader()),
+            yes(client.leads),
+            names::stage(client.stage).into(),
+            client.ledger.map_or("-".into(), |ledger| ledger.number.0.to_string()),
+            entries.to_string(),
+            lacking(latest, number),
+        ]);
+    }
+    Ok(table.text())
+}
+
+fn yes(is: bool) -> String {
+    if is { "yes" } else { "-" }.into()
+}
+
+/// The letters of the steps that a client has no right to.
+fn lacking(latest: Latest<'_>, client: u64) -> String {
+    let rights = latest.rights();
+    let lacking = Right::ALL.into_iter().filter(|&right| !rights.has(client, right));
+    let letters: Vec<_> = lacking.map(|right| names::letter(right).to_string()).collect();
+    if letters.is_empty() { "-".into() } else { letters.join(" ") }
+}
+
+fn ledgers(latest: Latest<'_>) -> Result<String, Error> {
+    let view = latest.view()?;
+    let sums = latest.sums()?;
+    let mut table =
+        Table::new([("ledger", Side::Right), ("state", Side::Left), ("entries", Side::Right), ("sum", Side::Right)]);
+    for sum in &sums {
+        let state = view.ledger(sum.ledger).map_or("-", state);
+        table.add([sum.ledger.0.to_string(), state.into(), sum.entries.to_string(), exact(sum.sum)]);
+    }
+    let mut text = if sums.is_empty() { String::new() } else { format!("\n{}", table.text()) };
+    let listed = |number: &u64| sums.iter().any(|sum| sum.ledger.0 == *number);
+    let others: Vec<_> = (1..=created(latest)?).filter(|number| !listed(number)).collect();
+    if !others.is_empty() {
+        let numbers: Vec<_> = others.iter().map(u64::to_string).collect();
+        let _ = write!(text, "\ncreated and not listed: {}\n", numbers.join(", "));
+    }
+    Ok(text)
+}
+
+fn state(ledger: Ledger) -> &'static str {
+    match (ledger.open, ledger.recovering) {
+        (true, _) => "open",
+        (false, true) => "fenced, recovering",
+        (false, false) => "closed",
+    }
+}
+
+fn mark_table(latest: Latest<'_>) -> String {
+    let mut table = Table::new([("mark", Side::Left), ("entries", Side::Right)]);
+    let mut kept = false;
+    for (name, entries) in latest.mark_list() {
+        table.add([marks::printed(name), entries.to_string()]);
+        kept = true;
+    }
+    if kept { format!("\n{}", table.text()) } else { String::new() }
+}
