@@ -20,12 +20,23 @@ impl Store {
         let part = Path::new(&part);
         let name = part.to_str().ok_or_else(|| Error::File("the name of the copy is no UTF-8".into()))?;
         let made = self.guarded(|link| Ok(link.database.prepare("VACUUM INTO ?")?.execute(&[Value::Text(name)])?));
-        // A link, and no rename: it fails where another file has come in between.
-        let made = made.and_then(|()| std::fs::hard_link(part, to).map_err(|error| file(&error)));
+        let made = made.and_then(|()| name_copy(part, to).map_err(|error| file(&error)));
         let _ = std::fs::remove_file(part);
         made?;
         let folder = to.parent().filter(|folder| !folder.as_os_str().is_empty()).unwrap_or(Path::new("."));
         std::fs::File::open(folder).and_then(|folder| folder.sync_all()).map_err(|error| file(&error))
+    }
+}
+
+/// Gives the copy its name. A link, and no rename: it fails where another file has come in between.
+fn name_copy(part: &Path, to: &Path) -> std::io::Result<()> {
+    match std::fs::hard_link(part, to) {
+        Err(error) if error.kind() != ErrorKind::AlreadyExists => {
+            // A disk that knows no links, as FAT: an empty file holds the name for the rename.
+            std::fs::File::create_new(to)?;
+            std::fs::rename(part, to).inspect_err(|_| drop(std::fs::remove_file(to)))
+        }
+        linked => linked,
     }
 }
 
