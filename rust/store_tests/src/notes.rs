@@ -65,15 +65,19 @@ impl Notes {
         OpenOptions::new().create(true).append(true).open(file(folder, process)).map(Notes)
     }
 
-    /// Adds a line. It is there once this returns, even if the process is killed then.
+    /// Adds a line. It is there once this returns, even if the process is killed then. A process that is killed meanwhile
+    /// may leave a part of it, which lacks the semicolon.
     pub fn add(&mut self, note: Note) -> io::Result<()> {
         let line = match note {
-            Note::Started => "started\n".to_owned(),
-            Note::Asked { log, value } => format!("asked {log} {value}\n"),
-            Note::Stored { log, value, at: Some((entry, place)) } => format!("stored {log} {value} {entry} {place}\n"),
-            Note::Stored { log, value, at: None } => format!("stored {log} {value}\n"),
-            Note::Refused { log, value } => format!("refused {log} {value}\n"),
-            Note::Closed { log, ledger, entries, sum } => format!("closed {log} {ledger} {entries} {sum}\n"),
+            // What was left of a line before it is ended.
+            Note::Started => "\nstarted;\n".to_owned(),
+            Note::Asked { log, value } => format!("asked {log} {value};\n"),
+            Note::Stored { log, value, at: Some((entry, place)) } => {
+                format!("stored {log} {value} {entry} {place};\n")
+            }
+            Note::Stored { log, value, at: None } => format!("stored {log} {value};\n"),
+            Note::Refused { log, value } => format!("refused {log} {value};\n"),
+            Note::Closed { log, ledger, entries, sum } => format!("closed {log} {ledger} {entries} {sum};\n"),
         };
         self.0.write_all(line.as_bytes())
     }
@@ -84,15 +88,24 @@ impl Notes {
     }
 }
 
-/// All notes of a process. A process that was killed in the midst of a line leaves none such: a line is one write.
+/// All notes of a process. Part of a line may stand only where the process was killed, before it was started again or at
+/// the end: what it would have said is not said.
 pub fn read(folder: &Path, process: u64) -> io::Result<Vec<Note>> {
     let text = match std::fs::read_to_string(file(folder, process)) {
         Err(error) if error.kind() == io::ErrorKind::NotFound => String::new(),
         text => text?,
     };
-    text.lines()
-        .map(|line| parse(line).ok_or_else(|| io::Error::other(format!("the notes have a line '{line}'"))))
-        .collect()
+    let (mut notes, mut part) = (Vec::new(), None);
+    for line in text.lines().filter(|line| !line.is_empty()) {
+        let note = line.strip_suffix(';').map(parse);
+        match (note, part) {
+            (Some(Some(Note::Started)), _) => (notes.push(Note::Started), part = None).0,
+            (Some(Some(note)), None) => notes.push(note),
+            (None, None) => part = Some(line),
+            (_, part) => return Err(io::Error::other(format!("the notes have '{}'", part.unwrap_or(line)))),
+        }
+    }
+    Ok(notes)
 }
 
 fn parse(line: &str) -> Option<Note> {
@@ -142,5 +155,27 @@ impl Collected {
             all.last.extend(open);
         }
         Ok(all)
+    }
+}
+
+#[cfg(test)]
+mod tests {
+    use super::*;
+    use crate::scratch::Scratch;
+
+    #[test]
+    fn parts_of_lines() {
+        let room = Scratch::new();
+        let notes = |text: &str| {
+            std::fs::write(file(room.folder(), 0), text).unwrap();
+            read(room.folder(), 0).ok()
+        };
+        let (started, asked) = (Note::Started, Note::Asked { log: 1, value: 23 });
+        assert_eq!(notes("\nstarted;\nasked 1 23;\n"), Some(vec![started, asked]));
+        // Where it was killed, what is left of a line says nothing.
+        assert_eq!(notes("\nstarted;\nasked 1 2"), Some(vec![started]));
+        assert_eq!(notes("\nstarted;\nasked 1 2\nstarted;\nasked 1 23;\n"), Some(vec![started, started, asked]));
+        assert_eq!(notes("\nstarted;\nstored 1 23\nasked 1 23;\n"), None);
+        assert_eq!(notes("asked 1;\n"), None);
     }
 }
