@@ -91,7 +91,7 @@ fn one_call_fails_of_each_length() {
         let (_, calls) = counted(|| store.write(0, value).unwrap());
         lengths.entry(calls).or_insert(value);
     }
-    assert!(lengths.len() >= 4 && lengths.keys().any(|&calls| calls > 20), "{lengths:?}");
+    assert!(lengths.len() >= 4 && lengths.keys().any(|&calls| calls > 10), "{lengths:?}");
     for (calls, first) in lengths {
         let before: Vec<_> = (0..first).map(|value| (0, Step::Write(value))).collect();
         assert_eq!(each_call(&write, &before), calls);
