@@ -153,6 +153,39 @@ fn rows_that_do_not_hold_together() {
     assert!(database.execute("DELETE FROM journal").is_err());
 }
 
+/// The checksum of a row as docs/REFERENCE.md defines it.
+fn checksum(before: u64, columns: &[Option<u64>]) -> u64 {
+    let add = |sum: u64, column: &Option<u64>| (sum ^ column.unwrap_or(u64::MAX)).wrapping_mul(0x100_0000_01B3);
+    columns.iter().fold(before, add)
+}
+
+// Rows whose checksums are right: words that are no log, and a step that would not leave these words.
+#[test]
+fn rows_that_nobody_stored() {
+    let room = Scratch::new();
+    let file = room.file("run.db");
+    drop(Store::create(&file, 2, Capacity::Large).unwrap());
+    let database = Database::open(&file, Mode::Existing, PATIENCE).unwrap();
+    let head = database.number("SELECT word FROM fresh_words WHERE at = 0").unwrap().unwrap() as u64;
+    drop(database);
+    let named = head | 1 << 30;
+    let first = |client: u64, word: u64| {
+        let columns = [Some(1), Some(0), Some(client), None, Some(0), Some(0), Some(word), None, None, None, None];
+        let sum = checksum(0xCBF2_9CE4_8422_2325, &columns) as i64;
+        let word = word as i64;
+        format!("INSERT INTO journal VALUES (1, 0, {client}, NULL, 0, 0, {word}, NULL, NULL, NULL, NULL, {sum})")
+    };
+    // This is what naming client 1 leaves.
+    assert_eq!(changed(&file, &room, &first(1, named)), Ok(1));
+    let damaged = |statement: &str, says: &str| match changed(&file, &room, statement) {
+        Err(Error::Damaged(why)) => assert!(why.contains(says), "{statement}: {why}"),
+        other => panic!("{statement}: {other:?}"),
+    };
+    damaged(&first(1, named | 1), "its words are not well formed");
+    damaged(&first(1, head), "row 1 of its journal is not what the log gives");
+    damaged(&first(0, head), "row 1 of its journal is a step that the log refuses");
+}
+
 // Any bit of any number or bytes of a row.
 #[test]
 fn single_bits_of_rows() {
