@@ -1,6 +1,6 @@
 //! The model's transcripts against outputs that were worked out by hand from the reference.
 
-use expected::files::input;
+use expected::files::{input, root};
 use expected::session::transcript;
 
 /// Inputs and their whole outputs. Lines are parted by ` | ` here.
@@ -230,6 +230,31 @@ const WHOLE: &[(&str, &str)] = &[
     ("bytes_16385_bad_start", "too long"),
 ];
 
+/// Examples for teaching with their whole outputs, as above, and their run totals.
+const TAUGHT: &[(&str, &str, &str)] = &[
+    (
+        "teaching_handover",
+        "1 ok | 2 ok | 3 ok | 4 ok | 5 entry 0 place 0 | 6 entry 1 place 1 | 7 ok | 8 ok | 9 ok | 10 ok | 11 ok | 12 ok | \
+         13 ok | 14 ok | 15 entry 2 place 0 | chain 0:101 0:102 1:103",
+        "ledger 1 entries 2 sum 0.000000000203 | ledger 2 entries 1 sum 0.000000000103 | total 0.000000000306 | \
+         rounded 0.000",
+    ),
+    (
+        "teaching_stale_leader",
+        "1 ok | 2 ok | 3 ok | 4 ok | 5 entry 0 place 0 | 6 ok | 7 ok | 8 ok | 9 entry 1 place 1 | 10 ok | 11 ref 12 | 12 ok | \
+         13 ok | 14 ok | 15 entry 2 place 0 | 16 ref 12 | 17 behind | 18 ref 7 | chain 0:201 0:202 1:203",
+        "ledger 1 entries 2 sum 0.000000000403 | ledger 2 entries 1 sum 0.000000000203 | total 0.000000000606 | \
+         rounded 0.000",
+    ),
+    (
+        "teaching_dead_leader",
+        "1 ok | 2 ok | 3 ok | 4 ok | 5 entry 0 place 0 | 6 entry 1 place 1 | 7 ok | 8 ok | 9 ok | 10 ok | 11 ref 12 | 12 ok | \
+         13 ok | 14 ok | 15 ok | 16 ok | 17 ok | 18 ok | 19 entry 2 place 0 | 20 behind | chain 0:301 0:302 2:303",
+        "ledger 1 entries 2 sum 0.000000000603 | ledger 2 entries 1 sum 0.000000000303 | total 0.000000000906 | \
+         rounded 0.000",
+    ),
+];
+
 /// Inputs with long outputs, the last lines of those, and what stands after `chain`.
 fn ends() -> Vec<(&'static str, &'static str, String)> {
     vec![
@@ -283,6 +308,15 @@ fn transcript_of(name: &str) -> String {
 fn whole_outputs() {
     for (name, short) in WHOLE {
         assert_eq!(transcript_of(name), written_out(short), "{name}");
+    }
+}
+
+#[test]
+fn taught_sessions() {
+    for (name, short, total) in TAUGHT {
+        let input = std::fs::read(root().join(format!("examples/{name}.session"))).unwrap();
+        assert_eq!(transcript(&input), written_out(short), "{name}");
+        assert_eq!(expected::total::output(&input), written_out(total), "{name}");
     }
 }
 

@@ -1,0 +1,15 @@
+//! A session as a picture: a page of HTML to step through, or one static drawing.
+//!
+//! What is shown is computed here, by taking each step on the proved log. The page's script applies and undoes these
+//! changes; it knows no rule of the log.
+
+pub mod arguments;
+mod data;
+mod digest;
+pub mod escape;
+pub mod frames;
+pub mod output;
+pub mod page;
+pub mod scene;
+pub mod svg;
+mod words;
