@@ -52,11 +52,12 @@ fn a_lock_held_past_the_deadline() {
     let began = Instant::now();
     let error = store.write(0, 1).unwrap_err();
     assert!(error.is_busy() && error.stored() == Stored::No, "{error}");
-    assert!((300..3_000).contains(&began.elapsed().as_millis()), "{:?}", began.elapsed());
-    // Who reads does not wait.
+    assert!((300..5_000).contains(&began.elapsed().as_millis()), "{:?}", began.elapsed());
+    // Who reads does not wait, however patient.
+    store.set_patience(Duration::from_secs(60));
     let began = Instant::now();
     assert_eq!(store.latest().unwrap().rows(), 4);
-    assert!(began.elapsed() < Duration::from_millis(250));
+    assert!(began.elapsed() < Duration::from_secs(30));
     other.execute("ROLLBACK").unwrap();
     assert_eq!(store.write(0, 1).unwrap().number.0, 0);
 }
