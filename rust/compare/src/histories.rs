@@ -129,7 +129,16 @@ impl<'a> Run<'a> {
         self.sides.set_rights(&turn.rights);
         self.sides.set_plan(&turn.plan);
         let outcome = self.sides.call(call).map_err(|difference| difference.to_string())?;
-        let agrees = match (call, &outcome) {
+        if self.agrees(turn, &outcome) {
+            Ok(())
+        } else {
+            Err(format!("{call}: the library gives {outcome:?}, LedgerChaining says otherwise\n"))
+        }
+    }
+
+    /// Whether LedgerChaining says the same of a call, and follows it.
+    fn agrees(&mut self, turn: &Turn, outcome: &Outcome) -> bool {
+        match (turn.call, outcome) {
             (Call::Step(client, step), Outcome::Answer(answer)) => self.source_agrees(true, client, step, *answer),
             (Call::StepWith(client, step), Outcome::Answer(answer)) => {
                 self.source_agrees_under(&turn.rights, client, step, *answer)
@@ -148,6 +157,13 @@ impl<'a> Run<'a> {
             (Call::Advise(client), outcome) => {
                 client >= self.source.c_state.len() as u64 && outcome.answer() == Some(Answer::Refused(3))
             }
+            (call, outcome) => self.reading_agrees(call, outcome),
+        }
+    }
+
+    /// The same for readings and marks.
+    fn reading_agrees(&mut self, call: Call, outcome: &Outcome) -> bool {
+        match (call, outcome) {
             (Call::ReadLedger(ledger), Outcome::Part { answer: Answer::Done, start, count }) => {
                 let part = *start as usize..(start + count) as usize;
                 self.source.ledger(ledger).is_some_and(|words| words == self.sides.buffers().entries[part])
@@ -166,11 +182,6 @@ impl<'a> Run<'a> {
             (Call::DropMark(name), outcome) => outcome.answer() == Some(self.drop_mark(name)),
             (Call::ReadMark(name), Outcome::Count { answer, count }) => self.mark_reading_agrees(name, *answer, *count),
             (_, outcome) => *outcome == Outcome::WellFormed(true),
-        };
-        if agrees {
-            Ok(())
-        } else {
-            Err(format!("{call}: the library gives {outcome:?}, LedgerChaining says otherwise\n"))
         }
     }
 

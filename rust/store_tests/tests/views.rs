@@ -1,13 +1,14 @@
 //! The views of a log's file, against what the library reads.
 
 use cindrolf::{
-    Capacity, EntryNumber, LedgerNumber, MAX_VALUE, Right, Stage, Step, StepWord, client_of, ledger_of, value_of,
+    Capacity, Client, EntryNumber, Ledger, LedgerNumber, MAX_VALUE, Right, Stage, Step, StepWord, client_of, ledger_of,
+    value_of,
 };
 use model::random::Random;
 use std::path::Path;
 use std::time::{Duration, Instant};
-use store::Store;
 use store::database::{Database, Mode, Value};
+use store::{Latest, Store};
 use store_tests::scratch::Scratch;
 
 /// The rows of a view, as text, and how long they took.
@@ -52,53 +53,65 @@ fn stage_name(stage: Stage) -> &'static str {
     }
 }
 
-/// What the views have to show, by the readers: the view, its columns, and its rows.
-fn expected(store: &mut Store) -> Vec<(&'static str, &'static str, Vec<String>)> {
-    let latest = store.latest().unwrap();
-    let (log, view) = (latest.log(), latest.view().unwrap());
-    let entries = &log.entries()[..view.entry_count() as usize];
+/// The rows of `entries`.
+fn entries(latest: Latest<'_>) -> Vec<String> {
+    let count = latest.view().unwrap().entry_count() as usize;
+    let entries = &latest.log().entries()[..count];
     let place = |number: usize| entries[..number].iter().filter(|word| *word >> 56 == entries[number] >> 56).count();
     let entry = |(number, &word): (usize, &u64)| {
         let ledger = ledger_of(word).unwrap().0;
         format!("{number} {ledger} {} {} {}", place(number), client_of(word), value_of(word))
     };
-    let chain = latest.chain().unwrap();
-    let along = chain.iter().enumerate().map(|(at, &word)| format!("{at} {} {}", client_of(word), value_of(word)));
+    entries.iter().enumerate().map(entry).collect()
+}
+
+/// The rows of `ledgers`.
+fn ledgers(latest: Latest<'_>) -> Vec<String> {
+    let (log, view) = (latest.log(), latest.view().unwrap());
     let created = (1..=255).map(LedgerNumber).filter_map(|number| view.ledger(number).map(|ledger| (number, ledger)));
-    let ledgers = created.map(|(number, ledger)| {
-        let state = if ledger.open {
-            "open"
-        } else if ledger.recovering {
-            "recovering"
-        } else {
-            "closed"
-        };
+    let row = |(number, ledger): (LedgerNumber, Ledger)| {
+        let open = if ledger.open { "open" } else { "closed" };
+        let state = if ledger.recovering { "recovering" } else { open };
         let place = view.list().position(|listed| listed == number).map(|place| place as u64 + 1);
         let held = log.read_ledger(number).unwrap_or(&[]);
         let sum = exact(held.iter().map(|&word| u128::from(value_of(word))).sum());
         let fenced = u64::from(ledger.fenced);
         format!("{} {} {state} {fenced} {} {} {sum}", number.0, or_none(place), ledger.version, held.len())
-    });
-    let clients = (0..).zip(view.clients()).map(|(number, client)| {
+    };
+    created.map(row).collect()
+}
+
+/// The rows of `clients`.
+fn clients(latest: Latest<'_>) -> Vec<String> {
+    let (view, chain) = (latest.view().unwrap(), latest.chain().unwrap());
+    let row = |(number, client): (u64, Client)| {
         let named = u64::from(view.named_leader() == number);
         let written = chain.iter().filter(|&&word| client_of(word) == number).count();
         let (stage, ledger) = (stage_name(client.stage), or_none(client.ledger.map(|ledger| ledger.number.0)));
         let leads = u64::from(client.leads);
         format!("{number} {named} {leads} {stage} {} {ledger} {written}", or_none(client.list_version))
-    });
+    };
+    (0..).zip(view.clients()).map(row).collect()
+}
+
+/// What the views have to show, by the readers: the view, its columns, and its rows.
+fn expected(store: &mut Store) -> Vec<(&'static str, &'static str, Vec<String>)> {
+    let latest = store.latest().unwrap();
+    let chain = latest.chain().unwrap();
+    let along = chain.iter().enumerate().map(|(at, &word)| format!("{at} {} {}", client_of(word), value_of(word)));
     let marks = latest.mark_list().map(|(name, count)| {
         let name = String::from_utf8(name.0.into_iter().filter(|&byte| byte != 0).collect()).unwrap();
         format!("{name} {count}")
     });
-    let rights = (0..view.client_count()).flat_map(|client| {
+    let rights = (0..latest.view().unwrap().client_count()).flat_map(|client| {
         Right::ALL.map(|right| format!("{client} {}", u64::from(latest.rights().has(client, right))))
     });
     let total = format!("{} {}", chain.len(), exact(latest.total().unwrap()));
     vec![
-        ("entries", "entry, ledger, place, client, value", entries.iter().enumerate().map(entry).collect()),
+        ("entries", "entry, ledger, place, client, value", entries(latest)),
         ("chain", "position, client, value", along.collect()),
-        ("ledgers", "ledger, list_place, state, fenced, version, entries, expected_errors", ledgers.collect()),
-        ("clients", "client, named, leads, stage, list_version, ledger, entries", clients.collect()),
+        ("ledgers", "ledger, list_place, state, fenced, version, entries, expected_errors", ledgers(latest)),
+        ("clients", "client, named, leads, stage, list_version, ledger, entries", clients(latest)),
         ("marks", "name, entries", marks.collect()),
         ("rights", "client, granted", rights.collect()),
         ("total", "entries, expected_errors", vec![total]),
