@@ -6,7 +6,8 @@ use std::io::ErrorKind;
 use std::path::Path;
 
 impl Store {
-    /// Writes the log as it is now to a new file, whole or not at all. Others may write meanwhile.
+    /// Writes the log as it is now to a new file, whole or not at all. Others may write meanwhile. It is made under the
+    /// name with the process's number and `.part` behind it, which stays where the process is killed.
     ///
     /// The copy is a single file, and can be read from a disk that cannot be written. It becomes a log that is written
     /// once a step is taken on it.
