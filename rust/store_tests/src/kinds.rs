@@ -23,7 +23,8 @@ pub fn prepared(path: &Path, before: &[(u64, Step)]) -> Store {
     store
 }
 
-/// Every kind of change: the ten steps, a write of scores, a plan, marks and rights.
+/// The kinds of change: the ten steps, a write of scores, a plan, a mark that is set and a right that is taken away. A
+/// mark that is dropped and a right that is given are rows of the same form.
 pub fn changes() -> Vec<Change> {
     use Step::*;
     let leads: &[_] = &[(0, Become), (0, Fetch), (0, Create), (0, Append)];

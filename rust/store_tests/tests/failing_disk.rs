@@ -66,6 +66,8 @@ fn each_call(change: &Change, more: &[(u64, Step)]) -> u64 {
         }
         assert_eq!(held(&mut store), after, "after {name}");
         assert_eq!(store.check(), Ok(after.0), "after {name}");
+        // Once it is stored, nothing of the first try comes back.
+        assert_eq!(held(&mut left_behind(&file, &room, calls + number)), after, "left after {name}");
     }
     calls
 }

@@ -217,8 +217,9 @@ fn a_full_log() {
     assert!(view.entry(EntryNumber(4_095)).is_some());
     compare(&mut store);
     for view in ["entries", "chain", "ledgers", "clients", "steps", "marks", "rights", "total", "words"] {
-        let (shown, taken) = rows(&file, view, "count(*)");
-        assert_ne!(shown, ["0"], "{view}");
+        // All columns are computed, though only the first is looked at.
+        let (shown, taken) = rows(&file, view, "*");
+        assert!(!shown.is_empty(), "{view}");
         assert!(taken < Duration::from_millis(300), "{view} took {taken:?}");
     }
     assert_eq!(store.write(0, 1), Err(store::Error::Refused(cindrolf::Refusal::DoesNotLead)));
