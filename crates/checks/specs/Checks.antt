@@ -14,6 +14,11 @@ abbrev pub first : {R A : Type 0} → List (Check R) → (R → A) → A → A
 first [] refuse otherwise = otherwise
 first ((r when t) ∷ cs) refuse otherwise = cond (test t) (refuse r) (first cs refuse otherwise)
 
+-- A function of what is given.
+pub first-map : {R A B : Type 0} (f : A → B) (cs : List (Check R)) (refuse : R → A) (a : A) → f (first cs refuse a) ≡ first cs (λ r. f (refuse r)) (f a)
+first-map f [] refuse a = refl
+first-map f ((r when t) ∷ cs) refuse a = by-bool (test t) (λ h. rw h) (λ h. rw h (first-map f cs refuse a))
+
 -- Something of every check.
 abbrev pub Each : {R : Type 0} → (R → Test → Type 0) → List (Check R) → Type 0
 Each P [] = Unit {0}

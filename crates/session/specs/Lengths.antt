@@ -15,7 +15,7 @@ use Rattle.chain.specs.Log.{alongList}
 use Rattle.chain.specs.Steps.{Step}
 use Rattle.chain.specs.Rights.{allRights}
 use Rattle.chain.specs.Operations.{Buffers, held, stepAnswer, afterSteps, freshBuffers, wordLedger, usedWords, cleared, chainReading}
-use Rattle.chain.specs.Laws.Numbers.{NumbersBelow, step-numbers, refusal-small}
+use Rattle.chain.specs.Laws.Numbers.{NumbersBelow, step-numbers, refusal-range}
 use Rattle.chain.specs.Laws.Readings.{read-all}
 use Rattle.dispatch.specs.Dispatch.{stepOf}
 use Rattle.grammar.specs.declared.Request.{Request}
@@ -42,7 +42,7 @@ answer-length (Written n) h = omega (
 answer-length (Refused r) h = omega (
   arith,
   length-append (bytes "ref ") (decimal (refusalNumber r)),
-  decimal-length 2 (refusalNumber r) (omega arith) (refusal-small r),
+  decimal-length 2 (refusalNumber r) (omega arith) (omega (arith, refusal-range r)),
 )
 
 reply-length : (rights : List ℕ) (r : Request) (b : Buffers) → length (replyText (replyTo rights r b)) ≤ 21

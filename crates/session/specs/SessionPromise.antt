@@ -5,7 +5,6 @@ use mathlib.Core.List.{List, [], _∷_, _++_, map}
 use lib.ListN.{length}
 use Rattle.text.specs.Bytes.{bytes}
 use Rattle.text.specs.Decimal.{decimal}
-use Rattle.records.specs.Layout.{clientLimit}
 use Rattle.records.specs.declared.entry.Entry.{Entry}
 use Rattle.chain.specs.declared.answer.Answer.{Answer}
 use Rattle.chain.specs.declared.answer.Answer.the-variants.{Done}
@@ -17,7 +16,6 @@ use Rattle.grammar.specs.declared.Request.the-variants.{Take, BadLine}
 use Rattle.replies.specs.Replies.{answerText, replyLine}
 use Rattle.requests.specs.Lines.{Line, lines}
 use Rattle.requests.specs.Requests.{requestOf, taken}
-use Rattle.requests.specs.Opening.{inputLimit}
 use Rattle.requests.specs.FirstLine.{firstLine}
 use Rattle.requests.specs.Begins.{blank}
 use Rattle.session.specs.Transcript.{transcript}
@@ -47,9 +45,9 @@ pub record ShowsSession (n : ℕ) (ls : List Line) (printed : List ℕ) : Type 0
 
 -- Every input is of one of three kinds.
 pub record SessionShowsHistory : Type 0 where
-  pub good : (n : ℕ) (rest : List ℕ) → 1 ≤ n → n ≤ clientLimit → length (firstLine n ++ rest) ≤ inputLimit
+  pub good : (n : ℕ) (rest : List ℕ) → 1 ≤ n → n ≤ 16 → length (firstLine n ++ rest) ≤ 16384
       → ShowsSession n (lines rest) (transcript (firstLine n ++ rest))
-  pub bad-start : (input : List ℕ) → length input ≤ inputLimit
-      → ((n : ℕ) (rest : List ℕ) → 1 ≤ n → n ≤ clientLimit → input ≡ firstLine n ++ rest → ⊥)
+  pub bad-start : (input : List ℕ) → length input ≤ 16384
+      → ((n : ℕ) (rest : List ℕ) → 1 ≤ n → n ≤ 16 → input ≡ firstLine n ++ rest → ⊥)
       → transcript input ≡ bytes "bad start\n"
-  pub too-long : (input : List ℕ) → inputLimit < length input → transcript input ≡ bytes "too long\n"
+  pub too-long : (input : List ℕ) → 16384 < length input → transcript input ≡ bytes "too long\n"

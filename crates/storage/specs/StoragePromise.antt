@@ -5,17 +5,17 @@ use mathlib.Core.List.{List, []}
 use mathlib.Core.Logic.{_↔_, _⊎_}
 use lib.ListN.{length, getD}
 use Rattle.chain.specs.Answers.{done, refused, answerNumber}
-use Rattle.storage.specs.Storage.{Below, wordsLimit, minus, differences, storageAnswer, bytesAfter, wordsAfter}
+use Rattle.storage.specs.Storage.{Below, minus, differences, storageAnswer, bytesAfter, wordsAfter}
 
 -- The lengths that are taken, by the counts of words and of bytes.
 abbrev pub Taken : ℕ → ℕ → Type 0
-Taken words bytes = (words ≤ wordsLimit) × (bytes ≡ 8 * words)
+Taken words bytes = (words ≤ 4096) × (bytes ≡ 8 * words)
 
 -- Of any words and any lent bytes, and of any bytes and any lent words; what is lent of a number of some width is below its limit.
 pub record GivesBack : Type 0 where
   -- Done is answered at these lengths, and 26 at all others, which leaves what was lent.
   pub is-done : (words bytes : ℕ) → (answerNumber (storageAnswer words bytes) ≡ done) ↔ Taken words bytes
-  pub is-refused : (words bytes : ℕ) → (answerNumber (storageAnswer words bytes) ≡ refused 26) ↔ ((wordsLimit < words) ⊎ (bytes ≡ 8 * words → ⊥))
+  pub is-refused : (words bytes : ℕ) → (answerNumber (storageAnswer words bytes) ≡ refused 26) ↔ ((4096 < words) ⊎ (bytes ≡ 8 * words → ⊥))
   pub bytes-stay : (ws bs : List ℕ) → (Taken (length ws) (length bs) → ⊥) → bytesAfter ws bs ≡ bs
   pub words-stay : (bs ws : List ℕ) → (Taken (length ws) (length bs) → ⊥) → wordsAfter bs ws ≡ ws
   -- Byte j, from the most significant, of the difference at index i stands at j × the count of words + i.

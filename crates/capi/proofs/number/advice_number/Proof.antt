@@ -4,7 +4,7 @@ use native.Mathlib.Omega.{arith}
 use mathlib.Core.Path.{sym, ap, _∙_}
 use borrow.Author.Needs.{needs}
 use Rattle.chain.specs.Answers.{adviceNumber}
-use Rattle.chain.specs.Laws.Numbers.{refusal-small}
+use Rattle.chain.specs.Laws.Numbers.{refusal-range}
 use Rattle.capi.proofs.number.advice_number.Statement.{statement}
 use Rattle.capi.proofs.number.advice_number.Tie as tie
 
@@ -15,7 +15,7 @@ refusal-number-requires : tie.Need-refusal-number-requires
 refusal-number-requires c κs = search needs
 
 add-result : tie.Need-add-result
-add-result c = omega (arith, c .refusal-number .ensures, refusal-small (c .before .before .a .given .0 .0))
+add-result c = omega (arith, c .refusal-number .ensures, refusal-range (c .before .before .a .given .0 .0))
 
 enum-told : tie.Need-enum-told
 enum-told c = search needs

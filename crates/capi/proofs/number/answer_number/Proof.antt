@@ -4,7 +4,7 @@ use native.Mathlib.Omega.{arith}
 use mathlib.Core.Path.{sym, ap, subst, _∙_}
 use borrow.Author.Needs.{needs}
 use Rattle.chain.specs.Answers.{answerNumber}
-use Rattle.chain.specs.Laws.Numbers.{NumbersBelow, refusal-small}
+use Rattle.chain.specs.Laws.Numbers.{NumbersBelow, refusal-range}
 use Rattle.capi.proofs.number.answer_number.Statement.{statement}
 use Rattle.capi.proofs.number.answer_number.Tie as tie
 
@@ -24,7 +24,7 @@ refusal-number-requires : tie.Need-refusal-number-requires
 refusal-number-requires c κs = search needs
 
 add-result : tie.Need-add-result
-add-result c = omega (arith, c .refusal-number .ensures, refusal-small (c .before .before .a .given .0 .0))
+add-result c = omega (arith, c .refusal-number .ensures, refusal-range (c .before .before .a .given .0 .0))
 
 enum-known-a-2 : tie.Need-enum-known-a-2
 enum-known-a-2 c = search needs
