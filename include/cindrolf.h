@@ -122,7 +122,7 @@ static inline uint64_t cindrolf_answer_place(uint64_t answer) { return answer & 
 #define CINDROLF_REFUSAL_NO_SENTENCE UINT64_C(28)      /* there is no sentence for these numbers */
 
 /* The numbers of the steps, in this order: what cindrolf_advise answers where it does not refuse, or that there is no step to take, what
- * stands in step words, and what cindrolf_sentence takes. Name is never advised. */
+ * stands in step words, and what cindrolf_sentence takes and cindrolf_read_sentence gives. Name is never advised. */
 #define CINDROLF_STEP_NAME UINT64_C(0)
 #define CINDROLF_STEP_BECOME UINT64_C(1)
 #define CINDROLF_STEP_ABDICATE UINT64_C(2)
@@ -351,6 +351,19 @@ struct cindrolf_sentence_bytes {
  * 28, where the step is above CINDROLF_STEP_CLOSE_OWN, the client above 255, or the refusal 0 or above CINDROLF_REFUSAL_NO_SENTENCE. A
  * refusal changes no byte. The refusal is given by its number, without CINDROLF_REFUSED. */
 struct cindrolf_sentence_bytes cindrolf_sentence(uint64_t step, uint64_t client, uint64_t refusal, char *text, size_t text_length);
+
+/* Whether a text is a sentence, 0 or 1, and the step, the client and the refusal that it says. All are 0 where it is none. */
+struct cindrolf_sentence_said {
+    uint64_t found;
+    uint64_t step;
+    uint64_t client;
+    uint64_t refusal;
+};
+
+/* Reads a sentence back: the numbers with which cindrolf_sentence writes exactly these bytes. A text of any length and content may be given;
+ * with a byte more, less or other than a sentence it is none, so also with a byte 0 or a line's end behind it. The client is at most 255. It
+ * refuses nothing and changes nothing. */
+struct cindrolf_sentence_said cindrolf_read_sentence(const char *text, size_t text_length);
 
 #ifdef __cplusplus
 }

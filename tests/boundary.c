@@ -779,12 +779,29 @@ static void expect_text(const char *sentence, size_t length) {
         expect("a byte behind a sentence", (uint64_t)(unsigned char)text[i], '#');
 }
 
+static void expect_said(const char *bytes, size_t length, uint64_t found, uint64_t step, uint64_t client, uint64_t refusal) {
+    struct cindrolf_sentence_said said = cindrolf_read_sentence(bytes, length);
+    expect("a text that is read", said.found, found);
+    expect("the step that it says", said.step, step);
+    expect("the client that it says", said.client, client);
+    expect("the refusal that it says", said.refusal, refusal);
+}
+
+static void expect_unsaid(const char *bytes, size_t length) {
+    expect_said(bytes, length, 0, 0, 0, 0);
+}
+
+/* It is written and read back; with a byte less or more it is none. */
 static void expect_sentence(uint64_t step, uint64_t client, uint64_t refusal, const char *sentence) {
     memset(text, '#', sizeof text);
     struct cindrolf_sentence_bytes said = cindrolf_sentence(step, client, refusal, text, CINDROLF_TEXT_BYTES);
     expect("a sentence", said.answer, CINDROLF_DONE);
     expect("its length", said.length, strlen(sentence));
     expect_text(sentence, strlen(sentence));
+    expect_said(text, said.length, 1, step, client, refusal);
+    expect_unsaid(text, said.length - 1);
+    expect_unsaid(text, said.length + 1);
+    expect_unsaid(text + 1, said.length - 1);
 }
 
 static void refuse_sentence(uint64_t step, uint64_t client, uint64_t refusal, char *bytes, size_t length, uint64_t given) {
@@ -813,6 +830,19 @@ static void check_sentences(void) {
     refuse_sentence(0, 0, 0, text, CINDROLF_TEXT_BYTES, none);
     refuse_sentence(0, 0, last + 1, text, CINDROLF_TEXT_BYTES, none);
     refuse_sentence(0, 0, far + 1, text, CINDROLF_TEXT_BYTES, none);
+}
+
+/* Texts that are no sentence, also none at all. */
+static void check_texts(void) {
+    const char *others[] = {"write of client 256: the log is full", "write of client 07: the log is full", "write of client : the log is full",
+                            "write of client 7: the log is full ", "Write of client 7: the log is full", "write of client 7",
+                            "close of client 7: the log is full"};
+    expect_unsaid(NULL, 0);
+    for (size_t i = 0; i < sizeof others / sizeof others[0]; i++)
+        expect_unsaid(others[i], strlen(others[i]));
+    /* A byte 0 is one byte more. */
+    expect_said("write of client 7: the log is full", 34, 1, CINDROLF_STEP_WRITE, 7, CINDROLF_REFUSAL_LOG_FULL);
+    expect_unsaid("write of client 7: the log is full", 35);
 }
 
 /* What the functions on a log of 512 entry words say, in the front of the buffer for 4,096. */
@@ -936,6 +966,7 @@ int main(void) {
     check_plans();
     check_rearranged();
     check_sentences();
+    check_texts();
     check_small();
     return wrong;
 }

@@ -23,7 +23,9 @@ use Rattle.plans.specs.Runs.{Foretells}
 use Rattle.chain.specs.Laws.Numbers.{NumbersBelow, step-numbers}
 use Rattle.fresh.specs.Fresh.{FreshResult}
 use Rattle.sentences.specs.declared.answer.SentenceAnswer.{SentenceAnswer}
+use Rattle.sentences.specs.declared.answer.SentenceRead.{SentenceRead}
 use Rattle.sentences.specs.Sentences.{sentenceAnswer, sentenceText, sentenceNumber, sentenceLength}
+use Rattle.sentences.specs.Read.{readSentence, sentenceFound, sentenceStep, sentenceClient, sentenceRefusal}
 use Rattle.readers.specs.Locate.{partStart, Locates}
 
 -- The number of this interface, the same as CINDROLF_VERSION in include/cindrolf.h.
@@ -98,6 +100,13 @@ pub record SentenceCall (step client refusal : ℕ) (text : List ℕ) (answer le
   pub lengths : length ≡ sentenceLength (sentenceAnswer step client refusal text)
   pub text-bytes : after ≡ sentenceText step client refusal text
 
+-- A sentence read back: whether the text is one, and its step, its client and its refusal.
+pub record ReadSentenceCall (text : List ℕ) (found step client refusal : ℕ) : Type 0 where
+  pub founds : found ≡ sentenceFound (readSentence text)
+  pub steps : step ≡ sentenceStep (readSentence text)
+  pub clients : client ≡ sentenceClient (readSentence text)
+  pub refusals : refusal ≡ sentenceRefusal (readSentence text)
+
 -- Fresh, read ledger, set, drop, rearrange and restore number no entry.
 pub numbers-none : (cs : List (Check Refusal)) → NumbersBelow (first cs Refused Done)
 numbers-none cs = at _ (outcome cs Refused Done)
@@ -160,3 +169,12 @@ read-mark-called e o p q = record { answers = p ∙ ap chainNumber e; counts = q
 pub sentence-called : {step client refusal : ℕ} {text after : List ℕ} {a : SentenceAnswer} {r n : ℕ} → a ≡ sentenceAnswer step client refusal text
     → after ≡ sentenceText step client refusal text → r ≡ sentenceNumber a → n ≡ sentenceLength a → SentenceCall step client refusal text r n after
 sentence-called e o p q = record { answers = p ∙ ap sentenceNumber e; lengths = q ∙ ap sentenceLength e; text-bytes = o }
+
+pub read-sentence-called : {text : List ℕ} {a : SentenceRead} {f s c r : ℕ} → a ≡ readSentence text → f ≡ sentenceFound a → s ≡ sentenceStep a
+    → c ≡ sentenceClient a → r ≡ sentenceRefusal a → ReadSentenceCall text f s c r
+read-sentence-called e o p q t = record {
+  founds = o ∙ ap sentenceFound e;
+  steps = p ∙ ap sentenceStep e;
+  clients = q ∙ ap sentenceClient e;
+  refusals = t ∙ ap sentenceRefusal e;
+}

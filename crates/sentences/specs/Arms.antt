@@ -1,5 +1,5 @@
 -- The last arm of a match over phrases: the numbers of the other arms are passed, and nothing is put.
-use Prim.Native.Nat.{ℕ, zero, suc, _<_, _≤_}
+use Prim.Native.Nat.{ℕ, zero, suc, _+_, _<_, _≤_}
 use native.Mathlib.Omega.{arith}
 use mathlib.Core.Path.{_≡_, refl}
 use mathlib.Core.List.{List, [], _∷_}
@@ -8,8 +8,14 @@ use Rattle.text.specs.Puts.{Puts}
 use Rattle.sentences.specs.Phrases.{stepNames, reasons, stepName, reason}
 use Rattle.sentences.specs.PhraseTables.{name-count, reason-count}
 
-pub past : {n k : ℕ} → k ≤ n → (n ≡ k → ⊥) → suc k ≤ n
-past l d = omega (arith, l, d)
+-- A number of the last arm: none of the m numbers from k on that the other arms have.
+abbrev pub Others : ℕ → ℕ → ℕ → Type 0
+Others n k zero = Unit {0}
+Others n k (suc m) = Others n k m × (n ≡ k + m → ⊥)
+
+pub past : (n k m : ℕ) → k ≤ n → Others n k m → k + m ≤ n
+past n k zero l h = omega arith
+past n k (suc m) l h = omega (arith, past n k m l (h .0), h .1)
 
 beyond : (table : List (List ℕ)) (i : ℕ) → length table ≤ i → getD table i [] ≡ []
 beyond [] i l = refl

@@ -1,7 +1,7 @@
--- The promise of sentences holds.
+-- The promises of sentences hold.
 use Prim.Native.Nat.{ℕ, _+_, _-_, _<_, _≤_}
 use native.Mathlib.Omega.{arith}
-use mathlib.Core.Path.{_≡_, refl, sym, ap, _∙_}
+use mathlib.Core.Path.{_≡_, refl, sym, ap, subst, _∙_}
 use mathlib.Core.List.{List, _++_}
 use lib.ListN.{length, take, drop, length-append, length-drop}
 use lib.Seq.{take-append-seam, drop-append-seam}
@@ -12,15 +12,19 @@ use Rattle.checks.specs.TestLaws.{by-test, clash, holds-true}
 use Rattle.checks.specs.Checks.{passed-first}
 use Rattle.chain.specs.declared.answer.Refusal.{Refusal}
 use Rattle.chain.specs.declared.answer.Refusal.the-variants.{TextTooShort, NoSentence}
+use Rattle.chain.specs.Answers.{refused}
 use Rattle.sentences.specs.declared.answer.SentenceAnswer.{SentenceAnswer}
 use Rattle.sentences.specs.declared.answer.SentenceAnswer.the-variants.{Length, Refused}
+use Rattle.sentences.specs.declared.answer.SentenceRead.{SentenceRead}
+use Rattle.sentences.specs.declared.answer.SentenceRead.the-variants.{Says, NotSentence}
 use Rattle.sentences.specs.Phrases.{stepName, reason}
-use Rattle.sentences.specs.Sentences.{sentence, fewestBytes, unsaid, sentenceChecks, sentenceAnswer, sentenceText}
+use Rattle.sentences.specs.Sentences.{sentence, fewestBytes, unsaid, sentenceChecks, sentenceAnswer, sentenceText, sentenceNumber}
 use Rattle.sentences.specs.PhraseTables.{name-holds, reason-holds}
 use Rattle.sentences.specs.Lengths.{some-refusal, sentence-length}
-use Rattle.sentences.specs.Reading.{same-sentence}
+use Rattle.sentences.specs.Read.{says, readSentence, sentenceStep, sentenceClient, sentenceRefusal}
+use Rattle.sentences.specs.Reading.{True, true-read, says-own}
 use Rattle.sentences.specs.Said.{too-short, not-said}
-use Rattle.sentences.specs.SentencePromise.{Numbers, SaysRefusals}
+use Rattle.sentences.specs.SentencePromise.{Numbers, SaysRefusals, ReadsSentences}
 
 -- The condition of 28 says which numbers these are not.
 numbers : (s c r : ℕ) → Fails (unsaid s c r) → Numbers s c r
@@ -61,24 +65,24 @@ module _ (s c r : ℕ) (text : List ℕ) where
       (λ l. by-test (unsaid s c r) (none-ends l) (λ f. long l (numbers s c r f) (said-answer l f) (said-text l f)))
 
 module _ {s c r : ℕ} {text after : List ℕ} {a : SentenceAnswer} where
-  only-short : Ends s c r text a after → a ≡ Refused TextTooShort → length text < fewestBytes
+  only-short : Ends s c r text a after → sentenceNumber a ≡ refused 27 → length text < fewestBytes
   only-short (short l e f) h = l
-  only-short (none l n e f) h = let z : _≡_ {A = ℕ} 0 1 = cc in absurd (omega arith)
-  only-short (long l n e f) h = let z : _≡_ {A = ℕ} 0 1 = cc in absurd (omega arith)
+  only-short (none l n e f) h = let z = ap sentenceNumber e in absurd (omega (arith, z, h))
+  only-short (long l n e f) h = let z = ap sentenceNumber e in absurd (omega (arith, z, h))
 
-  only-none : Ends s c r text a after → a ≡ Refused NoSentence → (fewestBytes ≤ length text) × (Numbers s c r → ⊥)
-  only-none (short l e f) h = let z : _≡_ {A = ℕ} 0 1 = cc in absurd (omega arith)
+  only-none : Ends s c r text a after → sentenceNumber a ≡ refused 28 → (fewestBytes ≤ length text) × (Numbers s c r → ⊥)
+  only-none (short l e f) h = let z = ap sentenceNumber e in absurd (omega (arith, z, h))
   only-none (none l n e f) h = (l, n)
-  only-none (long l n e f) h = let z : _≡_ {A = ℕ} 0 1 = cc in absurd (omega arith)
+  only-none (long l n e f) h = let z = ap sentenceNumber e in absurd (omega (arith, z, h))
 
   only-long : (n : ℕ) → Ends s c r text a after → a ≡ Length n → (fewestBytes ≤ length text) × (Numbers s c r × (n ≡ length (sentence s c r)))
   only-long n (short l e f) h = let z : _≡_ {A = ℕ} 0 1 = cc in absurd (omega arith)
   only-long n (none l m e f) h = let z : _≡_ {A = ℕ} 0 1 = cc in absurd (omega arith)
   only-long n (long l m e f) h = let q : n ≡ length (sentence s c r) = cc in (l, (m, q))
 
-  to-none : Ends s c r text a after → fewestBytes ≤ length text → (Numbers s c r → ⊥) → a ≡ Refused NoSentence
+  to-none : Ends s c r text a after → fewestBytes ≤ length text → (Numbers s c r → ⊥) → sentenceNumber a ≡ refused 28
   to-none (short k e f) l n = absurd (omega arith)
-  to-none (none k m e f) l n = e
+  to-none (none k m e f) l n = ap sentenceNumber e
   to-none (long k m e f) l n = absurd (n m)
 
   leaves : (q : Refusal) → Ends s c r text a after → a ≡ Refused q → after ≡ text
@@ -106,6 +110,12 @@ module _ {s c r : ℕ} {text after : List ℕ} {a : SentenceAnswer} where
     sentence-length s c r (not-unsaid s c r n),
   )
 
+-- A sentence says its numbers, so equal ones have the same.
+told : (s c r s' c' r' : ℕ) → Numbers s c r → Numbers s' c' r' → sentence s c r ≡ sentence s' c' r' → (s ≡ s') × ((c ≡ c') × (r ≡ r'))
+told s c r s' c' r' m n e =
+    let q : says s c r ≡ says s' c' r' = sym (says-own s c r m) ∙ ap readSentence e ∙ says-own s' c' r' n in
+    (ap sentenceStep q, (ap sentenceClient q, ap sentenceRefusal q))
+
 alike : (s c r s' c' r' : ℕ) → (s ≡ s') × ((c ≡ c') × (r ≡ r')) → sentence s c r ≡ sentence s' c' r'
 alike s c r s' c' r' e = rw (e .0, e .1 .0, e .1 .1)
 
@@ -118,12 +128,9 @@ says-refusals = record {
   form = formed;
   name = name-holds;
   reason = reason-holds;
-  equal = λ s c r s' c' r' m n. (
-    same-sentence s s' c c' r r' (m .step-number) (n .step-number) (m .some-refusal) (m .refusal-number) (n .some-refusal) (n .refusal-number),
-    alike s c r s' c' r',
-  );
+  equal = λ s c r s' c' r' m n. (told s c r s' c' r' m n, alike s c r s' c' r');
   fits = λ s c r n. sentence-length s c r (not-unsaid s c r n);
-  short = λ s c r text. (only-short (ends s c r text), λ l. sym (too-short s c r text l .0));
+  short = λ s c r text. (only-short (ends s c r text), λ l. ap sentenceNumber (sym (too-short s c r text l .0)));
   none = λ s c r text. (only-none (ends s c r text), λ h. to-none (ends s c r text) (h .0) (h .1));
   long = λ s c r text n. (
     only-long n (ends s c r text),
@@ -133,4 +140,21 @@ says-refusals = record {
   written = λ s c r text n e. writes n (ends s c r text) e .0;
   behind = λ s c r text n e. writes n (ends s c r text) e .1;
   whole = λ s c r text. keeps-length (ends s c r text);
+}
+
+only-other : (bs : List ℕ) (a : SentenceRead) → True bs a → ((s c r : ℕ) → Numbers s c r → bs ≡ sentence s c r → ⊥) → a ≡ NotSentence
+only-other bs (Says x) t never = absurd (never (x .step) (x .client) (x .refusal) (t .0) (t .1))
+only-other bs NotSentence t never = refl
+
+never-other : (bs : List ℕ) → readSentence bs ≡ NotSentence → (s c r : ℕ) → Numbers s c r → bs ≡ sentence s c r → ⊥
+never-other bs h s c r n e =
+    let q : says s c r ≡ NotSentence = sym (says-own s c r n) ∙ ap readSentence (sym e) ∙ h in
+    let z : _≡_ {A = ℕ} 0 1 = cc in omega arith
+
+pub reads-sentences : ReadsSentences
+reads-sentences = record {
+  reads = λ s c r bs. (λ h. subst (True bs) h (true-read bs), λ h. ap readSentence (h .1) ∙ says-own s c r (h .0));
+  other = λ bs. (never-other bs, only-other bs (readSentence bs) (true-read bs));
+  back = λ s c r text n h.
+      ap readSentence (says-refusals .written s c r text n h) ∙ says-own s c r (says-refusals .long s c r text n .0 h .1 .0);
 }

@@ -1,7 +1,8 @@
-// A refusal in words: one sentence of fixed phrases for step and reason and of the client's number, put into a lent text buffer.
+// A refusal in words: one sentence of fixed phrases for step and reason and of the client's number, put into a lent text buffer and read back.
 pub mod answer;
-pub mod compare;
+mod begin;
 mod name;
+pub mod read;
 mod reason;
 
 use answer::SentenceAnswer;

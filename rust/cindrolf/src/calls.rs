@@ -51,7 +51,8 @@
 
 pub use crate::storage::{rearrange, restore};
 use crate::{
-    Advice, CloseLast, Error, Finish, Forecast, LedgerNumber, MarkName, Position, Progress, ReadingPlace, answer, raw,
+    Advice, CloseLast, Error, Finish, Forecast, LedgerNumber, MarkName, Position, Progress, ReadingPlace, Refusal,
+    Said, answer, raw,
 };
 
 /// Makes the buffers an empty log for 1 to 16 clients, of which client 0 is the named leader.
@@ -365,4 +366,28 @@ pub fn sentence(step: u64, client: u64, refusal: u64, text: &mut [u8]) -> Result
     answer::done(said.answer)?;
     let length = said.length as usize;
     if length <= text.len() { Ok(length) } else { Err(Error::UnknownAnswer(said.length)) }
+}
+
+/// What a text says that is exactly a sentence; none where it is another text. The text has any bytes, and any number
+/// of them.
+///
+/// ```
+/// use cindrolf::{Error, Refusal, Said, calls};
+///
+/// let said = calls::read_sentence(b"write of client 7: the log is full")?;
+/// assert_eq!(said, Some(Said { step: 8, client: 7, refusal: Refusal::LogFull }));
+/// assert_eq!(calls::read_sentence(b"write of client 07: the log is full")?, None);
+/// # Ok::<(), Error>(())
+/// ```
+pub fn read_sentence(text: &[u8]) -> Result<Option<Said>, Error> {
+    // SAFETY: nothing is changed; the answer is a struct of four numbers.
+    let said = unsafe { raw::cindrolf_read_sentence(text.as_ptr(), text.len()) };
+    match said.found {
+        0 => Ok(None),
+        1 => {
+            let refusal = Refusal::from_number(said.refusal).ok_or(Error::UnknownAnswer(said.refusal))?;
+            Ok(Some(Said { step: said.step, client: said.client, refusal }))
+        }
+        found => Err(Error::UnknownAnswer(found)),
+    }
 }

@@ -186,6 +186,17 @@ impl Refusal {
     }
 }
 
+/// What a sentence says, as [`calls::read_sentence`](crate::calls::read_sentence()) reads it.
+#[derive(Clone, Copy, Debug, PartialEq, Eq, Hash)]
+pub struct Said {
+    /// The step that was refused, by its number, 0 to 9.
+    pub step: u64,
+    /// Its client, at most 255.
+    pub client: u64,
+    /// The refusal.
+    pub refusal: Refusal,
+}
+
 /// The reason, as in the refusal's sentences.
 impl fmt::Display for Refusal {
     fn fmt(&self, f: &mut fmt::Formatter<'_>) -> fmt::Result {

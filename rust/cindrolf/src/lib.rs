@@ -196,15 +196,17 @@
 //! # Ok::<(), Error>(())
 //! ```
 //!
-//! A refusal as one sentence, for a screen:
+//! A refusal as one sentence, for a screen, and read back from it:
 //!
 //! ```
-//! use cindrolf::{Error, Log};
+//! use cindrolf::{Error, Log, Said, calls};
 //!
 //! const WRITE: u64 = 8;
 //! let mut log = Log::fresh(8)?;
 //! let refusal = log.write(7, 1).unwrap_err().refusal().expect("client 7 does not lead");
-//! assert_eq!(refusal.sentence(WRITE, 7)?, "write of client 7: the client does not lead");
+//! let sentence = refusal.sentence(WRITE, 7)?;
+//! assert_eq!(sentence, "write of client 7: the client does not lead");
+//! assert_eq!(calls::read_sentence(sentence.as_bytes())?, Some(Said { step: WRITE, client: 7, refusal }));
 //! # Ok::<(), Error>(())
 //! ```
 
@@ -226,7 +228,7 @@ pub use answer::{
     Advice, Answer, CloseLast, EntryNumber, Finish, LedgerNumber, LedgerPlace, Position, Progress, ReadingPlace,
 };
 pub use capacity::Capacity;
-pub use error::{Error, Refusal};
+pub use error::{Error, Refusal, Said};
 pub use log::{Log, LogMut, LogRef, PermittedLog};
 pub use mark::MarkName;
 pub use plan::{Forecast, Step, StepWord};

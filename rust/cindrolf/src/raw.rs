@@ -34,6 +34,14 @@ pub struct SentenceBytes {
     pub length: u64,
 }
 
+#[repr(C)]
+pub struct SentenceSaid {
+    pub found: u64,
+    pub step: u64,
+    pub client: u64,
+    pub refusal: u64,
+}
+
 // Operations that change both buffers, each with the numbers that it takes.
 macro_rules! operations {
     ($($name:ident($($number:ident),*);)*) => {
@@ -200,4 +208,5 @@ unsafe extern "C" {
     pub fn cindrolf_rearrange(words: *const u64, words_len: usize, bytes: *mut u8, bytes_len: usize) -> u64;
     pub fn cindrolf_restore(bytes: *const u8, bytes_len: usize, words: *mut u64, words_len: usize) -> u64;
     pub fn cindrolf_sentence(step: u64, client: u64, refusal: u64, text: *mut u8, text_len: usize) -> SentenceBytes;
+    pub fn cindrolf_read_sentence(text: *const u8, text_len: usize) -> SentenceSaid;
 }

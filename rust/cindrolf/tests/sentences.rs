@@ -1,6 +1,6 @@
 //! Every sentence, and the one table of reasons: what the crate prints, and what the header and the reference say of each refusal.
 
-use cindrolf::{Error, Refusal, TEXT_BYTES, calls};
+use cindrolf::{Error, Refusal, Said, TEXT_BYTES, calls};
 use std::collections::HashSet;
 
 const STEPS: [&str; 10] =
@@ -92,4 +92,35 @@ fn refusals_change_no_byte() {
     }
     assert_eq!(calls::sentence(0, 0, 1, &mut text[..TEXT_BYTES - 1]), short);
     assert_eq!(text, [7; TEXT_BYTES]);
+}
+
+#[test]
+fn sentences_are_read_back() {
+    for step in 0..10 {
+        for client in 0..256 {
+            for &refusal in Refusal::ALL {
+                let sentence = sentence(step, client, refusal.number());
+                assert_eq!(calls::read_sentence(sentence.as_bytes()), Ok(Some(Said { step, client, refusal })));
+            }
+        }
+    }
+}
+
+#[test]
+fn other_texts_are_none() {
+    let sentence = b"write of client 7: the log is full";
+    for at in 0..sentence.len() {
+        let mut text = sentence.to_vec();
+        text[at] ^= 32;
+        assert_eq!(calls::read_sentence(&text), Ok(None), "{}", String::from_utf8_lossy(&text));
+        assert_eq!(calls::read_sentence(&sentence[..at]), Ok(None));
+        assert_eq!(calls::read_sentence(&sentence[at + 1..]), Ok(None));
+    }
+    for text in
+        ["write of client 256: the log is full", "write of client 07: the log is full", "of client 7: the log is full"]
+    {
+        assert_eq!(calls::read_sentence(text.as_bytes()), Ok(None), "{text}");
+    }
+    assert_eq!(calls::read_sentence(&[sentence.as_slice(), b" "].concat()), Ok(None));
+    assert_eq!(calls::read_sentence(&[sentence.as_slice(), &[0; 200_000]].concat()), Ok(None));
 }

@@ -14,3 +14,4 @@ pub mod sides;
 pub mod storage;
 pub mod sweep;
 pub mod tally;
+pub mod texts;

@@ -2,7 +2,7 @@
 
 use compare::sides::Sides;
 use compare::storage::{self, Counts};
-use compare::{arguments, buffers, call, histories, logs, sentences, sweep};
+use compare::{arguments, buffers, call, histories, logs, sentences, sweep, texts};
 use model::random::Random;
 use std::process::ExitCode;
 use std::time::{Duration, Instant};
@@ -13,7 +13,7 @@ Compares the proved library with the model: every call on both, then the answers
   --seed N    the seed of the random calls (default 1)
   --calls N   how many random calls, half of them in histories from fresh logs, half on buffers of any kind
               (default 1000000); and a hundredth as many that rearrange or restore words, and an eighth as many
-              for refusals in words
+              for refusals in words, each written and read
   --no-sweep  without every single-bit change of five logs, of their marks and of their rights
   --help      this text
 
@@ -76,6 +76,14 @@ fn run_sentences(options: &Options, met: &mut sentences::Met) -> Result<(), Stri
     (0..options.calls / 8).try_for_each(|_| sentences::any(sentences::library, &mut random, met))
 }
 
+/// Every sentence read back, the texts at the edges, and as many that are nearly sentences.
+fn run_texts(options: &Options, met: &mut texts::Met) -> Result<(), String> {
+    let mut random = Random::new(options.seed);
+    texts::all(texts::library, met)?;
+    texts::edges(texts::library, met)?;
+    (0..options.calls / 8).try_for_each(|_| texts::any(texts::library, &mut random, met))
+}
+
 fn run(options: &Options, sides: &mut Sides) -> Result<(), String> {
     let mut progress = Progress { start: Instant::now(), last: Duration::ZERO };
     for log in logs::all() {
@@ -113,19 +121,20 @@ fn main() -> ExitCode {
         Err(status) => return status,
     };
     println!("compare: seed {}, {} random calls", options.seed, options.calls);
-    let (mut sides, mut met) = (Sides::new(call::library), sentences::Met::default());
+    let mut sides = Sides::new(call::library);
+    let (mut counts, mut written, mut read) = (Counts::default(), sentences::Met::default(), texts::Met::default());
     let start = Instant::now();
-    let mut counts = Counts::default();
     let result = run(&options, &mut sides)
         .and_then(|()| run_storage(&options, &mut counts))
-        .and_then(|()| run_sentences(&options, &mut met));
-    print!("{}{counts}{met}", sides.tally);
+        .and_then(|()| run_sentences(&options, &mut written))
+        .and_then(|()| run_texts(&options, &mut read));
+    print!("{}{counts}{written}{read}", sides.tally);
     let never = sides.tally.never_met();
     if !never.is_empty() {
         println!("never met: {}", never.join(", "));
     }
     let seconds = start.elapsed().as_secs_f64();
-    let calls = sides.tally.calls() + counts.calls() + met.calls();
+    let calls = sides.tally.calls() + counts.calls() + written.calls() + read.calls();
     match result {
         Ok(()) => {
             println!("compare: {calls} calls, no difference, {seconds:.1} s");

@@ -1,6 +1,7 @@
 //! Refusals in words, as the reference has them. The reasons are read from its text.
 
 use crate::words::{Checked, refuse_if};
+use std::collections::HashMap;
 use std::sync::LazyLock;
 
 /// The fewest bytes of a text buffer.
@@ -42,4 +43,30 @@ pub fn write(step: u64, client: u64, refusal: u64, text: &mut [u8]) -> Checked<u
     let sentence = sentence(step, client, refusal);
     text[..sentence.len()].copy_from_slice(sentence.as_bytes());
     Ok(sentence.len())
+}
+
+/// The numbers that a sentence says.
+#[derive(Clone, Copy, Debug, Default, PartialEq, Eq)]
+pub struct Numbers {
+    /// The step's number.
+    pub step: u64,
+    /// The client's number.
+    pub client: u64,
+    /// The refusal's number.
+    pub refusal: u64,
+}
+
+/// Every sentence, with its numbers.
+static SENTENCES: LazyLock<HashMap<Vec<u8>, Numbers>> = LazyLock::new(|| {
+    let clients = |step| (0..=LAST_CLIENT).map(move |client| (step, client));
+    (0..STEPS.len() as u64)
+        .flat_map(clients)
+        .flat_map(|(step, client)| (1..=LAST_REFUSAL).map(move |refusal| Numbers { step, client, refusal }))
+        .map(|numbers| (sentence(numbers.step, numbers.client, numbers.refusal).into_bytes(), numbers))
+        .collect()
+});
+
+/// The numbers of a text that is a sentence: it is looked up among all of them.
+pub fn read(text: &[u8]) -> Option<Numbers> {
+    SENTENCES.get(text).copied()
 }

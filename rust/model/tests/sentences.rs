@@ -1,6 +1,6 @@
 //! Sentences and refusals of the model, against texts worked out by hand.
 
-use model::sentences::{REASONS, TEXT_BYTES, write};
+use model::sentences::{Numbers, REASONS, TEXT_BYTES, read, write};
 
 #[test]
 fn by_hand() {
@@ -33,4 +33,25 @@ fn refused() {
 fn reasons_of_the_reference() {
     assert_eq!(REASONS.len(), 28);
     assert_eq!(REASONS[22], "no mark of this name is kept");
+}
+
+#[test]
+fn read_by_hand() {
+    let numbers = |step, client, refusal| Some(Numbers { step, client, refusal });
+    assert_eq!(read(b"name of client 0: the client is the named leader"), numbers(0, 0, 4));
+    assert_eq!(read(b"close own of client 255: there is no sentence for these numbers"), numbers(9, 255, 28));
+    let others: [&[u8]; 9] = [
+        b"",
+        b"close own of client 256: the log is full",
+        b"write of client 07: the log is full",
+        b"write of client : the log is full",
+        b"write of client 7: the log is full ",
+        b" write of client 7: the log is full",
+        b"write of client 7: the log is ful",
+        b"Write of client 7: the log is full",
+        b"write of client 7:the log is full",
+    ];
+    for text in others {
+        assert_eq!(read(text), None, "{}", String::from_utf8_lossy(text));
+    }
 }

@@ -147,9 +147,7 @@ unfolding stepName stepNames
 returns-10 c = rw (c .before .before .before .before .before .match .keys10) (c .before .before .put-phrase10 .ensures)
 
 returns-11 : tie.Need-returns-11
-returns-11 c =
-    let k = c .match .rest in
-    put-none _ _ _ (no-name _ (past (past (past (past (past (past (past (past (past (past zero-le (k .0 .0 .0 .0 .0 .0 .0 .0 .0 .1)) (k .0 .0 .0 .0 .0 .0 .0 .0 .1)) (k .0 .0 .0 .0 .0 .0 .0 .1)) (k .0 .0 .0 .0 .0 .0 .1)) (k .0 .0 .0 .0 .0 .1)) (k .0 .0 .0 .0 .1)) (k .0 .0 .0 .1)) (k .0 .0 .1)) (k .0 .1)) (k .1)))
+returns-11 c = put-none _ _ _ (no-name _ (past _ 0 10 zero-le (c .match .rest)))
 
 pub put-name-spec : {M : Type 1} → statement M
 put-name-spec =

@@ -118,9 +118,7 @@ unfolding reason reasons
 returns-8 c = rw (c .before .before .before .before .before .match .keys8) (c .before .before .put-phrase8 .ensures)
 
 returns-9 : tie.Need-returns-9
-returns-9 c =
-    let k = c .match .rest in
-    put-none _ _ _ (no-reason _ (past (past (past (past (past (past (past (past (c .before .before .pre .0) (k .0 .0 .0 .0 .0 .0 .0 .1)) (k .0 .0 .0 .0 .0 .0 .1)) (k .0 .0 .0 .0 .0 .1)) (k .0 .0 .0 .0 .1)) (k .0 .0 .0 .1)) (k .0 .0 .1)) (k .0 .1)) (k .1)))
+returns-9 c = put-none _ _ _ (no-reason _ (past _ 21 8 (c .before .before .pre .0) (c .match .rest)))
 
 pub put-from-21-spec : {M : Type 1} → statement M
 put-from-21-spec =

@@ -76,9 +76,7 @@ unfolding reason reasons
 put-phrase-requires-10 c κs = rw (c .before .before .match .keys10) at (c .before .before .before .before .pre .1)
 
 put-from-11-requires : tie.Need-put-from-11-requires
-put-from-11-requires c κs =
-    let k = c .before .match .rest in
-    (past (past (past (past (past (past (past (past (past (past (c .before .before .before .pre .0) (k .0 .0 .0 .0 .0 .0 .0 .0 .0 .1)) (k .0 .0 .0 .0 .0 .0 .0 .0 .1)) (k .0 .0 .0 .0 .0 .0 .0 .1)) (k .0 .0 .0 .0 .0 .0 .1)) (k .0 .0 .0 .0 .0 .1)) (k .0 .0 .0 .0 .1)) (k .0 .0 .0 .1)) (k .0 .0 .1)) (k .0 .1)) (k .1), c .before .before .before .pre .1)
+put-from-11-requires c κs = (past _ 1 10 (c .before .before .before .pre .0) (c .before .match .rest), c .before .before .before .pre .1)
 
 same-length : tie.Need-same-length
 same-length c = search needs
