@@ -15,9 +15,12 @@ use Rattle.chain.specs.declared.answer.Verdict.{Verdict}
 use Rattle.chain.specs.declared.answer.Verdict.the-variants.{Pass, Refuse}
 use Rattle.chain.specs.Verdicts.{verdict, andThen, verdict-append, verdict-passes}
 use Rattle.chain.specs.Buffers.{head}
-use Rattle.chain.specs.Operations.{buffers, logChecks}
+use Rattle.chain.specs.Operations.{buffers}
 use Rattle.chain.specs.Marks.{marksLength, pairsOf, wellMarked, logCount, marksChecks}
 use Rattle.chain.specs.Laws.Formed.{Formed, formed}
+use Rattle.wellformed.specs.declared.Checked.{Checked}
+use Rattle.wellformed.specs.declared.Checked.the-variants as checks
+use Rattle.wellformed.specs.Checked.{checked, the-head}
 use Rattle.wellformed.specs.ThirdBuffer.{third-length, third-no-log, third-words, third-pass}
 
 module _ (s e ms : List ℕ) where
@@ -30,18 +33,22 @@ module _ (s e ms : List ℕ) where
   pub wrong-length : (length ms ≡ marksLength → ⊥) → Refuse WrongLength ≡ verdict (marksChecks (buffers s e) ms [])
   wrong-length n = third-length (buffers s e) wrong faulty n
 
-  module _ (long : length ms ≡ marksLength) (v : Verdict) (is : v ≡ verdict (logChecks (buffers s e) [])) where
-    pub no-log : (r : Refusal) → v ≡ Refuse r → Refuse r ≡ verdict (marksChecks (buffers s e) ms [])
-    no-log r p = third-no-log (buffers s e) wrong faulty long v is r p
+  module _ (long : length ms ≡ marksLength) {c : Checked} (is : c ≡ checked (buffers s e)) where
+    pub no-log : {r : Refusal} → c ≡ checks.Refused r → Refuse r ≡ verdict (marksChecks (buffers s e) ms [])
+    no-log p = third-no-log (buffers s e) wrong faulty long is p
 
-    module _ (h : Head) (at : h ≡ unpackHead (getD s 0 0)) (p : v ≡ Pass) where
+    -- By the entry count of the head that the check hands on.
+    module _ {h : Head} (p : c ≡ checks.Passed h) where
+      read : h ≡ unpackHead (getD s 0 0)
+      read = the-head (buffers s e) is p
+
       pub wrong-marks : wellMarked (h .«entry_count») (pairsOf ms) ≡ false → Refuse NotWellFormed ≡ verdict (marksChecks (buffers s e) ms [])
       unfolding head
-      wrong-marks f = third-words (buffers s e) wrong faulty long v is p (ap not (rw at at f))
+      wrong-marks f = third-words (buffers s e) wrong faulty long is p (ap not (rw read at f))
 
       pub marks-pass : wellMarked (h .«entry_count») (pairsOf ms) ≡ true → Pass ≡ verdict (marksChecks (buffers s e) ms [])
       unfolding head
-      marks-pass t = third-pass (buffers s e) wrong faulty long v is p (ap not (rw at at t))
+      marks-pass t = third-pass (buffers s e) wrong faulty long is p (ap not (rw read at t))
 
   -- The verdict on all three buffers, then that of further checks.
   module _ (cs : List (Check Refusal)) (v : Verdict) (is : v ≡ verdict (marksChecks (buffers s e) ms [])) where

@@ -2,6 +2,7 @@
 use crate::pairs::LENGTH;
 use chain::answer::Refusal;
 use chain::answer::Verdict;
+use wellformed::Checked;
 ghost use mathlib.Core.Path.{_≡_};
 ghost use mathlib.Core.List.{[]};
 ghost use Rattle.chain.specs.Verdicts.{verdict};
@@ -14,11 +15,10 @@ pub fn marks_verdict(state: &[u64], entries: &[u64], marks: &[u64]) -> Verdict
     if marks.len() != LENGTH {
         return Verdict::Refuse(Refusal::WrongLength);
     }
-    let v = wellformed::log_verdict(state, entries);
-    match v {
-        Verdict::Refuse(r) => Verdict::Refuse(r),
-        Verdict::Pass => {
-            let h = records::head::load_head(state);
+    let c = wellformed::check_log(state, entries);
+    match c {
+        Checked::Refused(r) => Verdict::Refuse(r),
+        Checked::Passed(h) => {
             if crate::form::marks_fit(marks, h.entry_count) {
                 Verdict::Pass
             } else {

@@ -1,6 +1,7 @@
 // What the checks of every step begin with: the lengths of all three buffers, and then their contents.
 use chain::answer::Refusal;
 use chain::answer::Verdict;
+use wellformed::Checked;
 ghost use mathlib.Core.Path.{_≡_};
 ghost use mathlib.Core.List.{[]};
 ghost use Rattle.chain.specs.Verdicts.{verdict};
@@ -12,11 +13,10 @@ pub fn lent_verdict(state: &[u64], entries: &[u64], rights: &[u64]) -> Verdict
     if rights.len() != crate::LENGTH {
         return Verdict::Refuse(Refusal::WrongLength);
     }
-    let v = wellformed::log_verdict(state, entries);
-    match v {
-        Verdict::Refuse(r) => Verdict::Refuse(r),
-        Verdict::Pass => {
-            let h = records::head::load_head(state);
+    let c = wellformed::check_log(state, entries);
+    match c {
+        Checked::Refused(r) => Verdict::Refuse(r),
+        Checked::Passed(h) => {
             if crate::form::rights_fit(rights, h.client_count) {
                 Verdict::Pass
             } else {

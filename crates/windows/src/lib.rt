@@ -3,8 +3,8 @@ mod cursor;
 mod walk;
 
 use chain::answer::Refusal;
-use chain::answer::Verdict;
 use chain::answer::WindowAnswer;
+use wellformed::Checked;
 ghost use mathlib.Core.Path.{_≡_};
 ghost use Rattle.chain.specs.Operations.{buffers};
 ghost use Rattle.chain.specs.Windows.{firstWindow};
@@ -16,17 +16,16 @@ const LONGEST: u64 = 256;
 pub fn first_window(state: &[u64], entries: &[u64], length: u64, limit: u64) -> WindowAnswer
     ensures { λ r. ⌜ r ≡ firstWindow length limit (buffers (now (state .entry)) (now (entries .entry))) ⌝ }
 {
-    let v = wellformed::log_verdict(state, entries);
-    match v {
-        Verdict::Refuse(r) => WindowAnswer::Refused(r),
-        Verdict::Pass => {
+    let c = wellformed::check_log(state, entries);
+    match c {
+        Checked::Refused(r) => WindowAnswer::Refused(r),
+        Checked::Passed(h) => {
             if length == 0 {
                 return WindowAnswer::Refused(Refusal::WindowLength);
             }
             if LONGEST < length {
                 return WindowAnswer::Refused(Refusal::WindowLength);
             }
-            let h = records::head::load_head(state);
             walk::first_over(state, entries, h, length, limit)
         }
     }
