@@ -1,8 +1,10 @@
 //! What a write, a close, the check, a reading, a search for a window, a sum of scores, a plan of writes and words rearranged cost, beside plain Rust, in one
 //! run; and what compressors make of a full log. See `--help`.
 
+mod against;
 mod bars;
 mod checks;
+mod library;
 mod measure;
 mod plans;
 mod plot;
@@ -33,6 +35,8 @@ by the proved library beside plain Rust, in turn. Then has gzip and zstd compres
   --plot FILE    where the plot of cost against entries and ledgers goes (default target/bench/cost.svg)
   --sizes FILE   where the plot of compressed sizes goes (default target/bench/sizes.svg)
   --no-plot      without both
+  --against BEFORE AFTER
+                 times a write alone, by two archives, each made a shared object
   --help         this text";
 
 const SLICE: Duration = Duration::from_micros(500);
@@ -41,11 +45,12 @@ struct Options {
     rounds: usize,
     plot: Option<PathBuf>,
     sizes: Option<PathBuf>,
+    against: Option<(PathBuf, PathBuf)>,
 }
 
 fn options(mut args: impl Iterator<Item = String>) -> Result<Options, String> {
     let (plot, sizes) = ("target/bench/cost.svg".into(), "target/bench/sizes.svg".into());
-    let mut options = Options { rounds: 201, plot: Some(plot), sizes: Some(sizes) };
+    let mut options = Options { rounds: 201, plot: Some(plot), sizes: Some(sizes), against: None };
     while let Some(arg) = args.next() {
         let mut next = || args.next().ok_or(format!("{arg} wants a word after it"));
         match arg.as_str() {
@@ -56,6 +61,7 @@ fn options(mut args: impl Iterator<Item = String>) -> Result<Options, String> {
             }
             "--plot" => options.plot = Some(next()?.into()),
             "--sizes" => options.sizes = Some(next()?.into()),
+            "--against" => options.against = Some((next()?.into(), next()?.into())),
             "--no-plot" => (options.plot, options.sizes) = (None, None),
             _ => return Err(format!("unknown option '{arg}'\n\n{HELP}")),
         }
@@ -281,8 +287,26 @@ fn about(file: &str, key: &str) -> String {
     line.rsplit(": ").next().unwrap_or(line).trim().into()
 }
 
-fn tables(rounds: usize) {
+fn machine() {
     println!("Processor: {}. Load before: {}.", about("/proc/cpuinfo", "model name"), about("/proc/loadavg", ""));
+}
+
+fn compare_archives(before: &Path, after: &Path, rounds: usize) -> ExitCode {
+    machine();
+    match against::against(before, after, rounds) {
+        Err(error) => {
+            eprintln!("bench: {error}");
+            ExitCode::FAILURE
+        }
+        Ok(()) => {
+            println!("Load after: {}.", about("/proc/loadavg", ""));
+            ExitCode::SUCCESS
+        }
+    }
+}
+
+fn tables(rounds: usize) {
+    machine();
     println!(
         "Median and quartiles over {rounds} rounds. The ratio is the library's time divided by the row's, round by round."
     );
@@ -387,6 +411,9 @@ fn main() -> ExitCode {
         Ok(options) => options,
         Err(status) => return status,
     };
+    if let Some((before, after)) = options.against {
+        return compare_archives(&before, &after, options.rounds);
+    }
     tables(options.rounds);
     let sizes = compressed(options.sizes.as_deref());
     match sizes.and(options.plot.map_or(Ok(()), |path| draw(&path, options.rounds.div_ceil(3)))) {
