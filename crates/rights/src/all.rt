@@ -1,13 +1,11 @@
 // All ten rights of each client below the count, for whoever lends all.
 ghost use mathlib.Core.Path.{_≡_};
-ghost use Prim.Native.Nat.{_<_};
-ghost use lib.ListN.{length, getD};
+ghost use lib.ListN.{length};
 ghost use Rattle.chain.specs.Buffers.{head};
-ghost use Rattle.chain.specs.Rights.{rightsLength, allRights};
+ghost use Rattle.rights.specs.All.{wordFor, granted};
 
 fn word_for(client: u64, count: u64) -> u64
-    requires { ⌜ client < rightsLength ⌝ }
-    ensures { λ r. ⌜ r ≡ getD (allRights count) client 0 ⌝ }
+    ensures { λ r. ⌜ r ≡ wordFor count client ⌝ }
 {
     if client < count {
         crate::EVERY_RIGHT
@@ -16,12 +14,12 @@ fn word_for(client: u64, count: u64) -> u64
     }
 }
 
+// Buffers of any length are filled: a step refuses one that is not of 16 words.
 pub fn grant_all(rights: &mut [u64], count: u64)
-    requires { ⌜ length (now rights) ≡ rightsLength ⌝ }
-    ensures { λ r. ⌜ now (rights .exit) ≡ allRights count ⌝ }
+    ensures { λ r. ⌜ now (rights .exit) ≡ granted count (length (now (rights .entry))) ⌝ }
 {
     let mut i = 0;
-    while i < crate::LENGTH {
+    while i < rights.len() {
         rights[i] = word_for(i as u64, count);
         i += 1;
     }
@@ -29,8 +27,7 @@ pub fn grant_all(rights: &mut [u64], count: u64)
 
 // By the client count that stands in a state buffer, whatever else does.
 pub fn grant_all_of(state: &[u64], rights: &mut [u64])
-    requires { ⌜ length (now rights) ≡ rightsLength ⌝ }
-    ensures { λ r. ⌜ now (rights .exit) ≡ allRights (head (now (state .entry)) .«client_count») ⌝ }
+    ensures { λ r. ⌜ now (rights .exit) ≡ granted (head (now (state .entry)) .«client_count») (length (now (rights .entry))) ⌝ }
 {
     let h = records::head::load_head(state);
     grant_all(rights, h.client_count)

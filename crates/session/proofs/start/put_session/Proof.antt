@@ -1,9 +1,10 @@
 -- `put_session` meets its contract.
 use native.Mathlib.Omega.{arith}
-use mathlib.Core.Path.{refl}
+use mathlib.Core.Path.{refl, _∙_}
 use Rattle.requests.specs.Begins.{fresh-is}
 use Rattle.session.specs.Starts.{fresh-room, end-reads, end-room, end-puts}
 use borrow.Author.Needs.{needs}
+use Rattle.rights.specs.All.{granted-all}
 use Rattle.session.proofs.start.put_session.Statement.{statement}
 use Rattle.session.proofs.start.put_session.Tie as tie
 
@@ -38,7 +39,7 @@ put-replies-requires c κs =
       begun .within,
       (
         begun .small,
-        fresh-room _ (begun .some) (begun .few) _ _ _ _ (c .before .before .before .before .before .grant-all .ensures)
+        fresh-room _ (begun .some) (begun .few) _ _ _ _ (c .before .before .before .before .before .grant-all .ensures ∙ granted-all _ refl)
             (fresh-is _ (begun .some) (begun .few) _ _ _ _ refl refl (at-fresh .fresh .ensures)) (at-fresh .before .before .before .before .before .pre .1),
       ),
     )
@@ -56,7 +57,7 @@ put-chain-requires : tie.Need-put-chain-requires
 put-chain-requires c κs =
     let at-put-replies = c .before .before .before .before .before .before .before .before in
     let at-fresh = at-put-replies .before .before .before .before .before .before .before .before .before .before in
-    let all = at-put-replies .before .before .before .before .before .before .grant-all .ensures in
+    let all = at-put-replies .before .before .before .before .before .before .grant-all .ensures ∙ granted-all _ refl in
     let begun = at-fresh .before .before .before .before .before .pre .0 in
     let is = fresh-is _ (begun .some) (begun .few) _ _ _ _ refl refl (at-fresh .fresh .ensures) in (
       end-reads _ (begun .some) (begun .few) all is (at-put-replies .put-replies .ensures) _ (omega arith),
@@ -72,7 +73,7 @@ returns c =
     let at-put-replies = at-put-chain .before .before .before .before .before .before .before .before .before in
     let at-fresh = at-put-replies .before .before .before .before .before .before .before .before .before .before in
     let begun = at-fresh .before .before .before .before .before .pre .0 in
-    end-puts _ (begun .some) (begun .few) (at-put-replies .before .before .before .before .before .before .grant-all .ensures)
+    end-puts _ (begun .some) (begun .few) (at-put-replies .before .before .before .before .before .before .grant-all .ensures ∙ granted-all _ refl)
     (fresh-is _ (begun .some) (begun .few) _ _ _ _ refl refl (at-fresh .fresh .ensures)) (at-put-replies .put-replies .ensures) _ _ (at-put-chain .put-chain .ensures)
 
 pub put-session-spec : {M : Type 1} → statement M

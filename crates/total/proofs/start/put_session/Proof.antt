@@ -1,8 +1,9 @@
 -- `put_session` meets its contract.
-use mathlib.Core.Path.{refl}
+use mathlib.Core.Path.{refl, _∙_}
 use Rattle.requests.specs.Begins.{fresh-is}
 use Rattle.total.specs.Summed.{run-summable, run-room, run-puts}
 use borrow.Author.Needs.{needs}
+use Rattle.rights.specs.All.{granted-all}
 use Rattle.total.proofs.start.put_session.Statement.{statement}
 use Rattle.total.proofs.start.put_session.Tie as tie
 
@@ -44,7 +45,7 @@ put-log-requires c κs =
     let at-fresh = c .before .before .before .before .before .before .before .before .before .before .before .before .before .before in
     let begun = at-fresh .before .before .before .before .before .pre .0 in
     let is = fresh-is _ (begun .some) (begun .few) _ _ _ _ refl refl (at-fresh .fresh .ensures) in
-    let ran = rw (c .before .before .before .before .before .before .before .before .before .before .grant-all .ensures) at (c .before .before .before .before .before .run-lines .ensures) in (
+    let ran = rw (c .before .before .before .before .before .before .before .before .before .before .grant-all .ensures ∙ granted-all _ refl) at (c .before .before .before .before .before .run-lines .ensures) in (
       run-summable _ (begun .some) (begun .few) _ is ran,
       run-room _ (begun .some) (begun .few) _ is ran (at-fresh .before .before .before .before .before .pre .1),
     )
@@ -57,7 +58,7 @@ returns c =
     let at-fresh = c .before .before .before .before .before .before .before .before .before .before .before .before .before .before .before .before .before in
     let begun = at-fresh .before .before .before .before .before .pre .0 in
     run-puts _ (begun .some) (begun .few) _ (fresh-is _ (begun .some) (begun .few) _ _ _ _ refl refl (at-fresh .fresh .ensures))
-    (rw (c .before .before .before .before .before .before .before .before .before .before .before .before .before .grant-all .ensures) at (c .before .before .before .before .before .before .before .before .run-lines .ensures)) (c .before .before .put-log .ensures)
+    (rw (c .before .before .before .before .before .before .before .before .before .before .before .before .before .grant-all .ensures ∙ granted-all _ refl) at (c .before .before .before .before .before .before .before .before .run-lines .ensures)) (c .before .before .put-log .ensures)
 
 pub put-session-spec : {M : Type 1} → statement M
 put-session-spec =
