@@ -16,60 +16,60 @@ use Rattle.readers.specs.Readable.{Readable}
 use Rattle.readers.specs.Listed.{placeLedger}
 use Rattle.readers.specs.Along.{chainWords}
 use Rattle.windows.specs.declared.cursor.Cursor.{Cursor}
-use Rattle.windows.specs.Left.{left, Within, Settled, beginning, left-all, next-word}
+use Rattle.windows.specs.Left.{left, Within, Settled, onward, beginning, left-all, next-word}
 use Rattle.windows.specs.Walk.{Window, begin, kept-small, takes, runs-out, some-left, goes-over, moves, word-held}
 
-pub record Walking (s e : List ℕ) (count last n limit : ℕ) (first past : Cursor) (start held kept : ℕ) : Type 0 where
-  pub window : Window n limit (left s e count last beginning) (left s e count last first) (left s e count last past) start held kept
-  pub at-start : Within count last first
-  pub at-past : Within count last past
+pub record Walking (s e : List ℕ) (count listed n limit : ℕ) (first past : Cursor) (start held kept : ℕ) : Type 0 where
+  pub window : Window n limit (left s e count listed beginning) (left s e count listed first) (left s e count listed past) start held kept
+  pub at-start : Within count listed first
+  pub at-past : Within count listed past
 
-module _ (s e : List ℕ) (count last n limit : ℕ) where
-  pub begins : 272 ≤ last → Walking s e count last n limit beginning beginning 0 0 0
-  begins l =
-      let within : Within count last beginning = record { ordered = omega arith; used = omega arith; listed = l } in
-      record { window = begin n limit (left s e count last beginning); at-start = within; at-past = within }
+module _ (s e : List ℕ) (count listed n limit : ℕ) where
+  pub begins : Walking s e count listed n limit beginning beginning 0 0 0
+  begins =
+      let within : Within count listed beginning = record { ordered = omega arith; used = omega arith; first = omega arith; last = omega arith } in
+      record { window = begin n limit (left s e count listed beginning); at-start = within; at-past = within }
 
-  module _ {first past : Cursor} {start held kept : ℕ} (w : Walking s e count last n limit first past start held kept) (long : count ≤ length e) where
-    module _ (more : held < n) (r : Cursor) (there : Settled s e count last past r) where
-      pub walk-takes : (r .at ≡ r .end → ⊥)
-          → Walking s e count last n limit first (record { at = r .at + 1; end = r .end; place = r .place }) start (held + 1)
-          (kept + getD e (r .at) 0 % 2 ^ 52)
-      walk-takes some = let next = next-word s e count last r (there .within) long some in record {
+  module _ {first past : Cursor} {start held kept : ℕ} (w : Walking s e count listed n limit first past start held kept) (long : count ≤ length e) where
+    module _ (more : held < n) (r : Cursor) (there : Settled s e count listed past r) where
+      pub walk-takes : (r .at .0 ≡ r .end .0 → ⊥)
+          → Walking s e count listed n limit first (onward r) start (held + 1)
+          (kept + getD e (r .at .0) 0 % 2 ^ 52)
+      walk-takes some = let next = next-word s e count listed r (there .within) long some in record {
         window = takes (w .window) more _ _ (sym (there .words) ∙ next .0);
         at-start = w .at-start;
         at-past = next .1;
       }
 
-      pub walk-ends : r .at ≡ r .end → None ≡ windowFrom n limit 0 (map valueOf (left s e count last beginning))
+      pub walk-ends : r .at .0 ≡ r .end .0 → None ≡ windowFrom n limit 0 (map valueOf (left s e count listed beginning))
       walk-ends q = runs-out (w .window) more (sym (there .words) ∙ there .none q)
 
-    module _ (full : n ≤ held) (one : 1 ≤ n) (r : Cursor) (there : Settled s e count last first r) where
-      pub walk-some : r .at ≡ r .end → ⊥
+    module _ (full : n ≤ held) (one : 1 ≤ n) (r : Cursor) (there : Settled s e count listed first r) where
+      pub walk-some : r .at .0 ≡ r .end .0 → ⊥
       walk-some q = some-left (w .window) full one (sym (there .words) ∙ there .none q)
 
-      at-word : left s e count last first ≡ getD e (r .at) 0 ∷ left s e count last (record { at = r .at + 1; end = r .end; place = r .place })
-      at-word = sym (there .words) ∙ next-word s e count last r (there .within) long walk-some .0
+      at-word : left s e count listed first ≡ getD e (r .at .0) 0 ∷ left s e count listed (onward r)
+      at-word = sym (there .words) ∙ next-word s e count listed r (there .within) long walk-some .0
 
       pub walk-moves : kept ≤ limit
-          → Walking s e count last n limit (record { at = r .at + 1; end = r .end; place = r .place }) past (start + 1) (held - 1)
-          (kept - getD e (r .at) 0 % 2 ^ 52)
+          → Walking s e count listed n limit (onward r) past (start + 1) (held - 1)
+          (kept - getD e (r .at .0) 0 % 2 ^ 52)
       walk-moves l = record {
         window = moves (w .window) full one _ _ at-word l;
-        at-start = next-word s e count last r (there .within) long walk-some .1;
+        at-start = next-word s e count listed r (there .within) long walk-some .1;
         at-past = w .at-past;
       }
 
-      pub walk-held : getD e (r .at) 0 % 2 ^ 52 ≤ kept
+      pub walk-held : getD e (r .at .0) 0 % 2 ^ 52 ≤ kept
       walk-held = word-held (w .window) full one _ _ at-word
 
-      pub walk-shorter : length (left s e count last (record { at = r .at + 1; end = r .end; place = r .place })) < length (left s e count last first)
+      pub walk-shorter : length (left s e count listed (onward r)) < length (left s e count listed first)
       walk-shorter = omega (arith, ap (length {A = ℕ}) at-word)
 
-    pub walk-over : n ≤ held → 1 ≤ n → limit < kept → Start (readingPlace start) ≡ windowFrom n limit 0 (map valueOf (left s e count last beginning))
-    walk-over full one l = at (left s e count last first) refl
+    pub walk-over : n ≤ held → 1 ≤ n → limit < kept → Start (readingPlace start) ≡ windowFrom n limit 0 (map valueOf (left s e count listed beginning))
+    walk-over full one l = at (left s e count listed first) refl
       where
-        at : (ws : List ℕ) → left s e count last first ≡ ws → Start (readingPlace start) ≡ windowFrom n limit 0 (map valueOf (left s e count last beginning))
+        at : (ws : List ℕ) → left s e count listed first ≡ ws → Start (readingPlace start) ≡ windowFrom n limit 0 (map valueOf (left s e count listed beginning))
         at [] q = absurd (some-left (w .window) full one q)
         at (x ∷ xs) q = goes-over (w .window) full one x xs q l
 
@@ -87,7 +87,7 @@ along-few m (k ∷ ks) h = omega (
   along-few m ks h,
 )
 
-pub reading-few : (s e : List ℕ) (h : Head) → Readable s e h → length (left s e (h .«entry_count») (272 + h .«list_length») beginning) < 2 ^ 32
+pub reading-few : (s e : List ℕ) (h : Head) → Readable s e h → length (left s e (h .«entry_count») (h .«list_length») beginning) < 2 ^ 32
 unfolding chainWords listIn
 reading-few s e h readable = omega (
   arith,

@@ -2,7 +2,7 @@
 use chain::answer::WindowAnswer;
 use records::entry::CLIENT_UNIT;
 use records::head::Head;
-use records::layout::FIRST_PLACE;
+use records::numbers::EntryNumber;
 use records::numbers::ReadingPlace;
 ghost use mathlib.Core.Path.{_≡_};
 ghost use mathlib.Core.List.{map};
@@ -20,7 +20,7 @@ pub fn first_over(state: &[u64], entries: &[u64], h: Head, length: u64, limit: u
     ensures { λ r. ⌜ r ≡ windowFrom length limit 0 (map valueOf (chainWords (now (state .entry)) (now (entries .entry)) h)) ⌝ }
 {
     let count = h.entry_count as usize;
-    let last = FIRST_PLACE + h.list_length as usize;
+    let listed = h.list_length;
     let mut answer = WindowAnswer::None;
     let mut first = crate::cursor::begin();
     let mut past = crate::cursor::begin();
@@ -29,23 +29,25 @@ pub fn first_over(state: &[u64], entries: &[u64], h: Head, length: u64, limit: u
     let mut sum: u64 = 0;
     'starts: loop {
         while held < length {
-            past = crate::cursor::settled(state, entries, count, last, past);
-            let at = past.at;
-            if at == past.end {
+            past = crate::cursor::settled(state, entries, count, listed, past);
+            let at = past.at.0;
+            if at == past.end.0 {
                 break 'starts;
             }
-            sum += entries[at] % CLIENT_UNIT;
-            past.at = at + 1;
+            sum += entries[at as usize] % CLIENT_UNIT;
+            let next = EntryNumber(at + 1);
+            past.at = next;
             held += 1;
         }
         if limit < sum {
             answer = WindowAnswer::Start(ReadingPlace(start));
             break 'starts;
         }
-        first = crate::cursor::settled(state, entries, count, last, first);
-        let at = first.at;
-        sum -= entries[at] % CLIENT_UNIT;
-        first.at = at + 1;
+        first = crate::cursor::settled(state, entries, count, listed, first);
+        let at = first.at.0;
+        sum -= entries[at as usize] % CLIENT_UNIT;
+        let next = EntryNumber(at + 1);
+        first.at = next;
         held -= 1;
         start += 1;
     }

@@ -14,22 +14,19 @@ use Rattle.windows.proofs.walk.first_over.Statement.{statement}
 use Rattle.windows.proofs.walk.first_over.Tie as tie
 
 abbrev Inv-loop : tie.InvT-loop
-Inv-loop state entries length limit count last answer first past₀ start held₀ sum₀ past held sum =
-    Walking state entries count last length limit first past start held sum
+Inv-loop state entries length limit count listed answer first past₀ start held₀ sum₀ past held sum =
+    Walking state entries count listed length limit first past start held sum
 
 abbrev μ-loop : tie.MeasureT-loop
-μ-loop state entries length limit count last answer first past₀ start held₀ sum₀ past held sum = length - held
+μ-loop state entries length limit count listed answer first past₀ start held₀ sum₀ past held sum = length - held
 
 abbrev Inv-starts : tie.InvT-starts
-Inv-starts state entries length limit count last answer₀ first₀ past₀ start₀ held₀ sum₀ answer first past start held sum =
-    (answer ≡ None) × Walking state entries count last length limit first past start held sum
+Inv-starts state entries length limit count listed answer₀ first₀ past₀ start₀ held₀ sum₀ answer first past start held sum =
+    (answer ≡ None) × Walking state entries count listed length limit first past start held sum
 
 abbrev μ-starts : tie.MeasureT-starts
-μ-starts state entries length limit count last answer₀ first₀ past₀ start₀ held₀ sum₀ answer first past start held sum =
-    lists.length (left state entries count last first)
-
-add-last : tie.Need-add-last Inv-loop μ-loop Inv-starts μ-starts
-add-last c = omega arith
+μ-starts state entries length limit count listed answer₀ first₀ past₀ start₀ held₀ sum₀ answer first past start held sum =
+    lists.length (left state entries count listed first)
 
 begin-requires : tie.Need-begin-requires Inv-loop μ-loop Inv-starts μ-starts
 begin-requires c κs = search needs
@@ -38,7 +35,7 @@ begin-requires-2 : tie.Need-begin-requires-2 Inv-loop μ-loop Inv-starts μ-star
 begin-requires-2 c κs = search needs
 
 starts-holds : tie.Need-starts-holds Inv-loop μ-loop Inv-starts μ-starts
-starts-holds c = (refl, rw (c .begin2 .ensures, c .before .begin .ensures) (begins _ _ _ _ _ _ (omega arith)))
+starts-holds c = (refl, rw (c .begin2 .ensures, c .before .begin .ensures) (begins _ _ _ _ _ _))
 
 loop-holds : tie.Need-loop-holds Inv-loop μ-loop Inv-starts μ-starts
 loop-holds c = c .starts .inv .1
@@ -46,7 +43,7 @@ loop-holds c = c .starts .inv .1
 settled-requires : tie.Need-settled-requires Inv-loop μ-loop Inv-starts μ-starts
 settled-requires c κs =
     let at-entry = c .before .before .before .before .before .before .before in
-    (at-entry .pre .0 .entries, (omega (arith, at-entry .pre .0 .state, at-entry .pre .0 .places), c .before .loop .inv .at-past))
+    (at-entry .pre .0 .entries, (at-entry .pre .0 .state, (at-entry .pre .0 .places, c .before .loop .inv .at-past)))
 
 mul-sum : tie.Need-mul-sum Inv-loop μ-loop Inv-starts μ-starts
 mul-sum c = search needs
@@ -64,8 +61,8 @@ add-sum c =
     let at-entry = c .before .before .before .before .before .before .before .before .before .before .before in
     omega (arith, walk-kept _ _ _ _ _ _ (at-loop .loop .inv) (at-entry .pre .0 .entries .within), c .before .before .before .before .loop-test .taken, at-entry .pre .1 .1)
 
-add-past : tie.Need-add-past Inv-loop μ-loop Inv-starts μ-starts
-add-past c =
+add-t22 : tie.Need-add-t22 Inv-loop μ-loop Inv-starts μ-starts
+add-t22 c =
     let at-settled = c .before .before .before in
     let within = at-settled .settled .ensures .within in
     omega (arith, within .ordered, within .used, c .before .if1 .left)
@@ -87,7 +84,7 @@ loop-again c =
 settled-requires-2 : tie.Need-settled-requires-2 Inv-loop μ-loop Inv-starts μ-starts
 settled-requires-2 c κs =
     let at-entry = c .before .before .before .before .before .before .before .before in
-    (at-entry .pre .0 .entries, (omega (arith, at-entry .pre .0 .state, at-entry .pre .0 .places), c .before .before .loop .inv .at-start))
+    (at-entry .pre .0 .entries, (at-entry .pre .0 .state, (at-entry .pre .0 .places, c .before .before .loop .inv .at-start)))
 
 mul-sum-2 : tie.Need-mul-sum-2 Inv-loop μ-loop Inv-starts μ-starts
 mul-sum-2 c = search needs
@@ -110,8 +107,8 @@ sub-sum c =
     walk-held _ _ _ _ _ _ (at-loop .loop .inv) (at-entry .pre .0 .entries .within) (c .before .before .before .loop-test .left) (at-entry .pre .1 .0) _
     (at-settled .settled2 .ensures)
 
-add-first : tie.Need-add-first Inv-loop μ-loop Inv-starts μ-starts
-add-first c =
+add-t29 : tie.Need-add-t29 Inv-loop μ-loop Inv-starts μ-starts
+add-t29 c =
     let at-settled = c .before in
     let at-loop = c .before .before .before .before in
     let at-entry = c .before .before .before .before .before .before .before .before .before .before in
@@ -178,7 +175,6 @@ first-over-spec =
     μ-loop
     Inv-starts
     μ-starts
-    add-last
     begin-requires
     begin-requires-2
     starts-holds
@@ -187,7 +183,7 @@ first-over-spec =
     mul-sum
     shared-slice-read-sum
     add-sum
-    add-past
+    add-t22
     add-held
     loop-less
     loop-again
@@ -195,7 +191,7 @@ first-over-spec =
     mul-sum-2
     shared-slice-read-sum-2
     sub-sum
-    add-first
+    add-t29
     sub-held
     add-start
     starts-less
