@@ -285,6 +285,41 @@ struct cindrolf_chain_count {
 struct cindrolf_chain_count cindrolf_read_chain(const uint64_t *state, size_t state_length, const uint64_t *entries, size_t entries_length,
                                                 uint64_t *output, size_t output_length);
 
+/* The ledger at a list place, 0 on a refusal. */
+struct cindrolf_listed_ledger {
+    uint64_t answer;
+    uint64_t ledger;
+};
+
+/* Says which ledger stands at a place of the list. Places count from 1: done, or refusal 1, 2 or 15, which is given for place 0 and for
+ * those past the end of the list. Ask for place 1, 2 and so on until 15 is answered, and you have the whole list. It changes nothing. */
+struct cindrolf_listed_ledger cindrolf_ledger_at(const uint64_t *state, size_t state_length, const uint64_t *entries, size_t entries_length,
+                                                 uint64_t place);
+
+/* How many entries a ledger has and the sum of their values, both 0 on a refusal. A sum is below 2^64. */
+struct cindrolf_summed_ledger {
+    uint64_t answer;
+    uint64_t entries;
+    uint64_t sum;
+};
+
+/* Adds up the values of a listed ledger's entries: done, or refusal 1, 2 or 15. It changes nothing. */
+struct cindrolf_summed_ledger cindrolf_ledger_sum(const uint64_t *state, size_t state_length, const uint64_t *entries,
+                                                  size_t entries_length, uint64_t ledger);
+
+/* The sum of the run is ones * 10^12 + parts, where the parts are below 10^12. As values are in parts of 10^-12, printing ones, a point and
+ * the parts as twelve digits gives the exact sum. `rounded` is that sum in thousandths, rounded once, a half up. All are 0 on a refusal. */
+struct cindrolf_summed_run {
+    uint64_t answer;
+    uint64_t ones;
+    uint64_t parts;
+    uint64_t rounded;
+};
+
+/* Adds up the values of all listed ledgers: done, or refusal 1 or 2. It changes nothing. On a log that began with cindrolf_fresh the sum is
+ * below 2^64; in other words a ledger can be listed many times, and counts as often. */
+struct cindrolf_summed_run cindrolf_run_total(const uint64_t *state, size_t state_length, const uint64_t *entries, size_t entries_length);
+
 /* Whether cindrolf_first_window found a window, 0 or 1, and its start: a place in the reading, from 0. Both are 0 where none was found, and
  * on a refusal. */
 struct cindrolf_window_found {

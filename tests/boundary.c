@@ -84,6 +84,22 @@ static void refuse_marks(const uint64_t *s, size_t s_length, const uint64_t *e, 
     expect("read at a mark, no output", cindrolf_mark_read(s, s_length, e, e_length, m, m_length, 1, NULL, 0).answer, WRONG_LENGTH);
 }
 
+/* The list and the totals refuse these buffers: the answer alone is not 0. */
+static void refuse_totals(const uint64_t *s, size_t s_length, const uint64_t *e, size_t e_length, uint64_t answer) {
+    struct cindrolf_listed_ledger listed = cindrolf_ledger_at(s, s_length, e, e_length, 1);
+    expect("ledger at", listed.answer, answer);
+    expect("the ledger there", listed.ledger, 0);
+    struct cindrolf_summed_ledger ledger = cindrolf_ledger_sum(s, s_length, e, e_length, 1);
+    expect("ledger sum", ledger.answer, answer);
+    expect("its entries", ledger.entries, 0);
+    expect("its sum", ledger.sum, 0);
+    struct cindrolf_summed_run run = cindrolf_run_total(s, s_length, e, e_length);
+    expect("run total", run.answer, answer);
+    expect("its ones", run.ones, 0);
+    expect("its parts", run.parts, 0);
+    expect("it rounded", run.rounded, 0);
+}
+
 /* Every operation refuses these buffers, of which at least one is empty or has another wrong length. */
 static void refuse(uint64_t *s, size_t s_length, uint64_t *e, size_t e_length) {
     uint64_t word = 7;
@@ -106,6 +122,7 @@ static void refuse(uint64_t *s, size_t s_length, uint64_t *e, size_t e_length) {
     expect("first window", window.answer, WRONG_LENGTH);
     expect("whether one is found", window.found, 0);
     expect("its start", window.start, 0);
+    refuse_totals(s, s_length, e, e_length, WRONG_LENGTH);
     expect("read chain, no output", cindrolf_read_chain(s, s_length, e, e_length, NULL, 0).answer, WRONG_LENGTH);
     refuse_marks(s, s_length, e, e_length, marks, CINDROLF_MARK_WORDS);
     refuse_marks(s, s_length, e, e_length, NULL, 0);
@@ -240,6 +257,60 @@ static void check_windows(void) {
     expect("a window of 257", given.answer, CINDROLF_REFUSED + CINDROLF_REFUSAL_WINDOW_LENGTH);
     expect("whether one is found", given.found, 0);
     expect("its start", given.start, 0);
+}
+
+static void check_place(uint64_t place, uint64_t answer, uint64_t ledger) {
+    struct cindrolf_listed_ledger given = cindrolf_ledger_at(state, CINDROLF_STATE_WORDS, entries, CINDROLF_ENTRY_WORDS, place);
+    expect("ledger at", given.answer, answer);
+    expect("the ledger there", given.ledger, ledger);
+}
+
+static void check_sum(uint64_t ledger, uint64_t answer, uint64_t count, uint64_t sum) {
+    struct cindrolf_summed_ledger given = cindrolf_ledger_sum(state, CINDROLF_STATE_WORDS, entries, CINDROLF_ENTRY_WORDS, ledger);
+    expect("ledger sum", given.answer, answer);
+    expect("its entries", given.entries, count);
+    expect("its sum", given.sum, sum);
+}
+
+static void check_total(uint64_t ones, uint64_t parts, uint64_t rounded) {
+    struct cindrolf_summed_run given = cindrolf_run_total(state, CINDROLF_STATE_WORDS, entries, CINDROLF_ENTRY_WORDS);
+    expect("run total", given.answer, CINDROLF_DONE);
+    expect("its ones", given.ones, ones);
+    expect("its parts", given.parts, parts);
+    expect("it rounded", given.rounded, rounded);
+}
+
+/* Ledger 1 is empty, and ledger 2 has the entries of check_windows. */
+static void check_totals(void) {
+    const uint64_t none = CINDROLF_REFUSED + CINDROLF_REFUSAL_NOT_LISTED;
+    check_place(1, CINDROLF_DONE, 1);
+    check_place(2, CINDROLF_DONE, 2);
+    check_place(0, none, 0);
+    check_place(3, none, 0);
+    check_place(UINT64_MAX, none, 0);
+    check_sum(1, CINDROLF_DONE, 0, 0);
+    check_sum(2, CINDROLF_DONE, 5, UINT64_C(4001100000000508));
+    check_sum(0, none, 0, 0);
+    check_sum(3, none, 0, 0);
+    check_sum((UINT64_C(1) << 32) + 1, none, 0, 0);
+    check_total(4001, UINT64_C(100000000508), 4001100);
+}
+
+/* Words that no fresh log leads to: a full ledger of the greatest values, listed 255 times. Their sum leaves 64 bits. */
+static void check_greatest_total(void) {
+    memset(state, 0, sizeof state);
+    state[0] = UINT64_C(4096) << 51 | UINT64_C(2) << 42 | UINT64_C(255) << 34 | UINT64_C(1) << 25;
+    state[1] = UINT64_C(0x0800020000000000);
+    state[17] = UINT64_C(0x8000000000000000);
+    for (size_t i = 0; i < 255; i++)
+        state[272 + i] = UINT64_C(1) << 56;
+    for (size_t i = 0; i < CINDROLF_ENTRY_WORDS; i++)
+        entries[i] = UINT64_C(1) << 56 | ((UINT64_C(1) << 52) - 1);
+    expect("a log without a history", cindrolf_well_formed(state, CINDROLF_STATE_WORDS, entries, CINDROLF_ENTRY_WORDS), true);
+    check_place(255, CINDROLF_DONE, 1);
+    check_place(256, CINDROLF_REFUSED + CINDROLF_REFUSAL_NOT_LISTED, 0);
+    check_sum(1, CINDROLF_DONE, 4096, UINT64_C(18446744073709547520));
+    check_total(UINT64_C(4703919738), UINT64_C(795934617600), UINT64_C(4703919738796));
 }
 
 /* Client 1 fences the ledger of client 0, and then finishes it. */
@@ -856,6 +927,7 @@ static void expect_not_a_log(const char *what, size_t entry_words) {
     expect(what, cindrolf_read_ledger(state, CINDROLF_STATE_WORDS, entries, entry_words, 1).answer, answer);
     expect(what, cindrolf_read_chain(state, CINDROLF_STATE_WORDS, entries, entry_words, NULL, 0).answer, answer);
     expect(what, cindrolf_first_window(state, CINDROLF_STATE_WORDS, entries, entry_words, 1, 0).answer, answer);
+    refuse_totals(state, CINDROLF_STATE_WORDS, entries, entry_words, answer);
     expect(what, cindrolf_mark_set(state, CINDROLF_STATE_WORDS, entries, entry_words, marks, CINDROLF_MARK_WORDS, WASH), answer);
     refuse_steps(state, CINDROLF_STATE_WORDS, entries, entry_words, rights, CINDROLF_RIGHTS_WORDS, answer);
 }
@@ -958,6 +1030,7 @@ int main(void) {
     check_scores();
     check_wide();
     check_windows();
+    check_totals();
     check_places();
     check_advice();
     check_recovery();
@@ -968,5 +1041,6 @@ int main(void) {
     check_sentences();
     check_texts();
     check_small();
+    check_greatest_total();
     return wrong;
 }

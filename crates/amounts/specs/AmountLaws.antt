@@ -9,7 +9,7 @@ use Rattle.text.specs.Decimal.{decimal}
 use Rattle.text.specs.DecimalLaws.{decimal-length}
 use Rattle.text.specs.Digits.{one-length}
 use Rattle.text.specs.Puts.{Puts}
-use Rattle.amounts.specs.Amounts.{padded, fixed}
+use Rattle.amounts.specs.Amounts.{padded, pointed, fixed}
 use Rattle.amounts.specs.Rounding.{rounded, rounded-small}
 
 pub padded-length : (places n : ℕ) → length (padded places n) ≡ places
@@ -23,7 +23,7 @@ padded-length (suc places) n = omega (
 )
 
 fixed-length : (whole places n : ℕ) → length (decimal (n / 10 ^ places)) ≤ whole → length (fixed places n) ≤ whole + 1 + places
-unfolding fixed
+unfolding fixed pointed
 fixed-length whole places n h = omega (
   arith,
   padded-length places (n % 10 ^ places),
@@ -49,7 +49,6 @@ unfolding padded
 last-digit zero n h = absurd (h refl)
 last-digit (suc places) n h = let q : suc places - 1 ≡ places = omega arith in rw q refl
 
-pub fixed-parts : (places n unit : ℕ) → unit ≡ 10 ^ places
-    → fixed places n ≡ decimal (n / unit) ++ (bytes "." ++ padded places (n % unit))
+pub fixed-parts : (places n unit : ℕ) → unit ≡ 10 ^ places → fixed places n ≡ pointed (n / unit) places (n % unit)
 unfolding fixed
 fixed-parts places n unit e = rw e

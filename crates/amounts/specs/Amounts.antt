@@ -9,6 +9,10 @@ unfoldable pub padded : ℕ → ℕ → List ℕ
 padded zero n = []
 padded (suc places) n = padded places (n / 10) ++ decimal (n % 10)
 
--- n parts of 10^-places: the whole part without leading zeros, a point, and the decimals.
+-- The whole part without leading zeros, a point, and the decimals.
+unfoldable pub pointed : ℕ → ℕ → ℕ → List ℕ
+pointed ones places parts = decimal ones ++ (bytes "." ++ padded places parts)
+
+-- n parts of 10^-places.
 unfoldable pub fixed : ℕ → ℕ → List ℕ
-fixed places n = decimal (n / 10 ^ places) ++ (bytes "." ++ padded places (n % 10 ^ places))
+fixed places n = pointed (n / 10 ^ places) places (n % 10 ^ places)

@@ -2,8 +2,7 @@
 ghost use mathlib.Core.Path.{_≡_};
 ghost use Prim.Native.Nat.{_^_, _≤_};
 ghost use Rattle.text.specs.Puts.{Puts, Room};
-ghost use Rattle.amounts.specs.Amounts.{padded, fixed};
-ghost use Rattle.amounts.specs.Rounding.{rounded};
+ghost use Rattle.amounts.specs.Amounts.{padded, pointed, fixed};
 
 // The last digits of a number, zeros included.
 fn put_padded(text: &mut [u8], at: usize, places: u64, n: u64) -> usize
@@ -17,6 +16,16 @@ fn put_padded(text: &mut [u8], at: usize, places: u64, n: u64) -> usize
     text::decimal::put_decimal(text, last, n % 10)
 }
 
+// The whole part, a point, and so many decimals.
+pub fn put_pointed(text: &mut [u8], at: usize, ones: u64, places: u64, parts: u64) -> usize
+    requires { ⌜ Room (now text) at (pointed ones places parts) ⌝ }
+    ensures { λ r. ⌜ Puts (now (text .entry)) at (pointed ones places parts) (now (text .exit)) r ⌝ }
+{
+    let e = text::decimal::put_decimal(text, at, ones);
+    let f = text::phrase::put_byte(text, e, b'.');
+    put_padded(text, f, places, parts)
+}
+
 // The unit is that of the whole part.
 fn put_fixed(text: &mut [u8], at: usize, unit: u64, places: u64, n: u64) -> usize
     requires unit { ⌜ unit ≡ 10 ^ places ⌝ }
@@ -24,9 +33,7 @@ fn put_fixed(text: &mut [u8], at: usize, unit: u64, places: u64, n: u64) -> usiz
     requires room { ⌜ Room (now text) at (fixed places n) ⌝ }
     ensures { λ r. ⌜ Puts (now (text .entry)) at (fixed places n) (now (text .exit)) r ⌝ }
 {
-    let e = text::decimal::put_decimal(text, at, n / unit);
-    let f = text::phrase::put_byte(text, e, b'.');
-    put_padded(text, f, places, n % unit)
+    put_pointed(text, at, n / unit, places, n % unit)
 }
 
 // An amount with all its twelve decimals.
@@ -37,11 +44,10 @@ pub fn put_exact(text: &mut [u8], at: usize, amount: u64) -> usize
     put_fixed(text, at, 1000000000000, 12, amount)
 }
 
-// An amount rounded to three decimals.
-pub fn put_rounded(text: &mut [u8], at: usize, amount: u64) -> usize
-    requires { ⌜ Room (now text) at (fixed 3 (rounded amount)) ⌝ }
-    ensures { λ r. ⌜ Puts (now (text .entry)) at (fixed 3 (rounded amount)) (now (text .exit)) r ⌝ }
+// An amount in thousandths.
+pub fn put_thousandths(text: &mut [u8], at: usize, thousandths: u64) -> usize
+    requires { ⌜ Room (now text) at (fixed 3 thousandths) ⌝ }
+    ensures { λ r. ⌜ Puts (now (text .entry)) at (fixed 3 thousandths) (now (text .exit)) r ⌝ }
 {
-    let thousandths = crate::rounding::rounded(amount);
     put_fixed(text, at, 1000, 3, thousandths)
 }

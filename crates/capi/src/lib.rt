@@ -9,5 +9,6 @@ pub mod reading;
 pub mod rearranged;
 pub mod sentence;
 pub mod step;
+pub mod total;
 pub mod version;
 pub mod window;

@@ -11,7 +11,6 @@ use Rattle.text.specs.Bytes.{bytes}
 use Rattle.text.specs.Decimal.{numeralOf}
 use Rattle.text.specs.Find.{indexOf}
 use Rattle.text.specs.Phrase.{sameBytes}
-use Rattle.sentences.specs.declared.answer.SentenceNumbers.{SentenceNumbers}
 use Rattle.sentences.specs.declared.answer.SentenceRead.{SentenceRead}
 use Rattle.sentences.specs.declared.answer.SentenceRead.the-variants.{Says, NotSentence}
 use Rattle.sentences.specs.Phrases.{stepNames, reasons}

@@ -1,12 +1,12 @@
 -- What reading meets: a phrase at the beginning, a table tried phrase by phrase, and the client's numeral.
-use Prim.Native.Nat.{ℕ, suc, _+_, _-_, _<_, _≤_}
+use Prim.Native.Nat.{ℕ, _+_, _-_, _<_, _≤_}
 use Prim.Native.Char.{code}
 use native.Mathlib.Omega.{arith}
 use native.Mathlib.Nat.{sub-zero}
 use native.Mathlib.Numerals.{add-one}
-use mathlib.Core.Path.{_≡_, refl, sym, ap, _∙_}
-use mathlib.Core.Bool.{Bool, true, false, cond}
-use mathlib.Core.List.{List, [], _∷_}
+use mathlib.Core.Path.{_≡_, sym, ap, _∙_}
+use mathlib.Core.Bool.{Bool, true, false}
+use mathlib.Core.List.{List, []}
 use lib.ListN.{length, getD, take, drop, length-take, length-drop, drop-of-length-le}
 use lib.Seq.{take-all, drop-cons}
 use borrow.Author.Tests.{le-leb, lt-leb}
@@ -15,7 +15,7 @@ use Rattle.text.specs.declared.decimal.Numeral.the-variants.{Number}
 use Rattle.text.specs.Decimal.{numeralOf}
 use Rattle.text.specs.Find.{indexOf}
 use Rattle.text.specs.Phrase.{sameBytes}
-use Rattle.text.specs.PhraseLaws.{same-equal, differ-not-same}
+use Rattle.text.specs.PhraseLaws.{same-equal}
 use Rattle.checks.specs.TestLaws.{by-bool}
 use Rattle.sentences.specs.declared.answer.SentenceRead.{SentenceRead}
 use Rattle.sentences.specs.declared.answer.SentenceRead.the-variants.{NotSentence}

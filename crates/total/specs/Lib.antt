@@ -1,6 +1,6 @@
 pub mod Output
 pub mod TotalPromise
-pub mod Sums
+pub mod Answers
 pub mod Listing
 pub mod Summed
 pub mod Lengths

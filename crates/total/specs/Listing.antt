@@ -1,106 +1,87 @@
--- The listed ledgers one after the other: what the loop over the list places owes and meets.
-use Prim.Native.Nat.{ℕ, _+_, _<_, _≤_, _^_}
+-- The listed ledgers one after the other, as the log names them place after place: what the loop over the places meets.
+use Prim.Native.Nat.{ℕ, _+_, _-_, _<_, _≤_}
 use native.Mathlib.Omega.{arith}
+use native.Mathlib.Numerals.{add-one}
 use mathlib.Core.Path.{_≡_, refl, sym, ap, subst, _∙_}
 use mathlib.Core.List.{List, [], _∷_}
-use lib.ListN.{length, getD}
-use Rattle.text.specs.Puts.{Puts, Room, room-first, room-next, puts-then, Left, left-all, left-room, left-turn, left-none}
+use mathlib.Core.Logic.{inr}
+use lib.ListN.{length, getD, take, drop, drop-of-length-le, length-map, length-take}
+use lib.Seq.{drop-cons}
+use Rattle.text.specs.Puts.{Puts, Room, room-first, Left, left-all, left-room, left-turn, left-none}
+use Rattle.checks.specs.Test.{less}
+use Rattle.checks.specs.TestLaws.{by-test}
 use Rattle.records.specs.declared.numbers.LedgerNumber.{LedgerNumber}
-use Rattle.records.specs.declared.head.Head.{Head}
-use Rattle.records.specs.Layout.{stateLength}
-use Rattle.records.specs.Words.{unpackHead, unpackPlace}
+use Rattle.records.specs.Layout.{placeIndex}
+use Rattle.records.specs.Words.{ledgerNumber, unpackPlace}
 use Rattle.records.specs.WordLaws.{head-fits}
-use Rattle.chain.specs.Buffers.{head}
-use Rattle.chain.specs.Operations.{Buffers, held, readLedgerPart}
-use Rattle.chain.specs.Values.{sumOf}
-use Rattle.readers.specs.Listed.{places, places-turn, places-end, places-all}
-use Rattle.total.specs.Output.{ledgerLine, endLines, partLine, ledgerLines, sumAlong, logText}
+use Rattle.chain.specs.declared.answer.Refusal.{Refusal}
+use Rattle.chain.specs.declared.answer.PlaceAnswer.the-variants.{Ledger, Refused}
+use Rattle.chain.specs.Buffers.{head, listIn}
+use Rattle.chain.specs.Operations.{Buffers, held, IsLog, ledgerAt}
+use Rattle.totals.specs.TotalsTheorem.{totals-show-history}
+use Rattle.total.specs.Output.{partLine, ledgerLines}
 
--- A log whose sums stay in 64 bits.
-pub record Summable (b : Buffers) : Type 0 where
-  pub state : length (b .state) ≡ stateLength
-  pub parts : (k : ℕ) → length (readLedgerPart k b) ≤ 4096
-  pub small : sumAlong (held b .list) b < 2 ^ 64
+apart : (l : LedgerNumber) (r : Refusal) → Ledger l ≡ Refused r → ⊥
+apart l r e = let z : _≡_ {A = ℕ} 0 1 = cc in omega arith
 
--- One ledger's line in the text, and its sum.
-pub record PutsLedger (b : Buffers) (k : ℕ) (text : List ℕ) (at : ℕ) (text′ : List ℕ) (at′ n : ℕ) : Type 0 where
-  pub puts : Puts text at (partLine k b) text′ at′
-  pub sums : n ≡ sumOf (readLedgerPart k b)
+-- There are at most 255 list places in use.
+pub list-few : (b : Buffers) → length (held b .list) ≤ 255
+unfolding listIn head
+list-few b =
+    let n : ℕ = head (b .state) .«list_length» in
+    let words : List ℕ = drop (placeIndex 1) (b .state) in
+    omega (arith, length-map (take n words) (λ word. unpackPlace word .0), length-take n words, head-fits (getD (b .state) 0 0) .list)
 
--- All lines in the text, and their sums added up.
-pub record Listed (b : Buffers) (text text′ : List ℕ) (at total : ℕ) : Type 0 where
-  pub puts : Puts text 0 (ledgerLines (held b .list) b) text′ at
-  pub sums : total ≡ sumAlong (held b .list) b
+-- A loop that has come to a list place.
+pub record Listing (b : Buffers) (text : List ℕ) (p : ℕ) (text′ : List ℕ) (at : ℕ) : Type 0 where
+  pub some : 1 ≤ p
+  pub few : p ≤ length (held b .list) + 1
+  pub left : Left text 0 (ledgerLines (held b .list) b) text′ at (ledgerLines (drop (p - 1) (held b .list)) b)
 
--- A loop that has come to a list place, by its index in the state buffer.
-pub record Listing (b : Buffers) (text : List ℕ) (i end : ℕ) (text′ : List ℕ) (at total : ℕ) : Type 0 where
-  pub left : Left text 0 (ledgerLines (held b .list) b) text′ at (ledgerLines (places (b .state) i end) b)
-  pub sums : total + sumAlong (places (b .state) i end) b ≡ sumAlong (held b .list) b
+pub listing-start : (b : Buffers) (text : List ℕ) → Listing b text 1 text 0
+listing-start b text = record { some = omega arith; few = omega arith; left = left-all text 0 (ledgerLines (held b .list) b) }
 
-pub listing-start : (b : Buffers) (text : List ℕ) (h : Head) → h ≡ unpackHead (getD (b .state) 0 0)
-    → Listing b text 272 (272 + h .«list_length») text 0 0
-unfolding head
-listing-start b text h e =
-    let q : held b .list ≡ places (b .state) 272 (272 + h .«list_length») =
-    places-all (b .state) (unpackHead (getD (b .state) 0 0) .«list_length»)
-    ∙ ap (λ (k : Head). places (b .state) 272 (272 + k .«list_length»)) (sym e) in
-    record {
-      left = subst (λ (ks : List ℕ). Left text 0 (ledgerLines (held b .list) b) text 0 (ledgerLines ks b)) q (left-all text 0 (ledgerLines (held b .list) b));
-      sums = omega (arith, ap (λ (ks : List ℕ). sumAlong ks b) q);
-    }
+module _ {b : Buffers} {text : List ℕ} {p : ℕ} {text′ : List ℕ} {at : ℕ} (i : IsLog b) (l : Listing b text p text′ at) where
+  -- The ledger that the log names there.
+  module _ (k : LedgerNumber) (named : Ledger k ≡ ledgerAt p b) where
+    pub within : p ≤ length (held b .list)
+    within = by-test (less (length (held b .list)) p)
+        (λ h. absurd (apart k _ (named ∙ totals-show-history .log b i .no-place p (inr h))))
+        (λ h. h)
 
-module _ (b : Buffers) (text : List ℕ) (i end : ℕ) (text′ : List ℕ) (at total : ℕ) (l : Listing b text i end text′ at total) where
-  -- The ledger at a list place.
-  module _ (more : i < end) (within : end ≤ length (b .state)) (k : LedgerNumber) (is : k ≡ unpackPlace (getD (b .state) i 0)) where
-    here : Left text 0 (ledgerLines (held b .list) b) text′ at (ledgerLines (k .0 ∷ places (b .state) (i + 1) end) b)
-    here = subst (λ (ks : List ℕ). Left text 0 (ledgerLines (held b .list) b) text′ at (ledgerLines ks b)) (places-turn (b .state) i end more within k is) (l .left)
+    is : k .0 ≡ getD (held b .list) (p - 1) 0
+    is =
+        let q : p - 1 + 1 ≡ p = omega (arith, l .some) in
+        same (named ∙ ap (λ (n : ℕ). ledgerAt n b) (sym q) ∙ totals-show-history .log b i .place (p - 1) (omega (arith, l .some, within)))
+      where
+        same : Ledger k ≡ Ledger (ledgerNumber (getD (held b .list) (p - 1) 0)) → k .0 ≡ getD (held b .list) (p - 1) 0
+        same e = cc
+
+    here : drop (p - 1) (held b .list) ≡ k .0 ∷ drop (p + 1 - 1) (held b .list)
+    here =
+        let q : p - 1 + 1 ≡ p + 1 - 1 = omega (arith, l .some) in
+        rw (is, ← q, add-one (p - 1)) (drop-cons (held b .list) (p - 1) 0 (omega (arith, l .some, within)))
+
+    left-here : Left text 0 (ledgerLines (held b .list) b) text′ at (ledgerLines (k .0 ∷ drop (p + 1 - 1) (held b .list)) b)
+    left-here = subst (λ (ks : List ℕ). Left text 0 (ledgerLines (held b .list) b) text′ at (ledgerLines ks b)) here (l .left)
 
     pub listing-room : Room text 0 (ledgerLines (held b .list) b) → Room text′ at (partLine (k .0) b)
     unfolding ledgerLines
-    listing-room room = room-first _ _ (left-room here room)
+    listing-room room = room-first _ _ (left-room left-here room)
 
-    module _ (text″ : List ℕ) (at″ n : ℕ) (p : PutsLedger b (k .0) text′ at text″ at″ n) where
-      pub summed : total + n + sumAlong (places (b .state) (i + 1) end) b ≡ sumAlong (held b .list) b
-      unfolding sumAlong
-      summed = omega (arith, l .sums, p .sums, ap (λ (ks : List ℕ). sumAlong ks b) (places-turn (b .state) i end more within k is))
+    pub listing-turn : {text″ : List ℕ} {at″ : ℕ} → Puts text′ at (partLine (k .0) b) text″ at″ → Listing b text (p + 1) text″ at″
+    unfolding ledgerLines
+    listing-turn puts = record { some = omega arith; few = omega (arith, within); left = left-turn left-here refl puts }
 
-      pub listing-turn : Listing b text (i + 1) end text″ at″ (total + n)
-      unfolding ledgerLines
-      listing-turn = record { left = left-turn here refl (p .puts); sums = summed }
+  -- The list has no such place: all its ledgers are in the text.
+  pub listing-end : (r : Refusal) → Refused r ≡ ledgerAt p b → Puts text 0 (ledgerLines (held b .list) b) text′ at
+  unfolding ledgerLines
+  listing-end r refused = left-none (rw none at (l .left))
+    where
+      past : length (held b .list) < p
+      past = by-test (less (length (held b .list)) p) (λ h. h)
+          (λ h. let q : p - 1 + 1 ≡ p = omega (arith, l .some) in
+          absurd (apart _ r (sym (refused ∙ ap (λ (n : ℕ). ledgerAt n b) (sym q) ∙ totals-show-history .log b i .place (p - 1) (omega (arith, l .some))))))
 
-  pub listing-end : i ≤ end → end ≤ i → Listed b text text′ at total
-  unfolding ledgerLines sumAlong
-  listing-end a z =
-      let none : places (b .state) i end ≡ [] = places-end (b .state) i end a z in
-      record {
-        puts = left-none (rw none at (l .left));
-        sums = omega (arith, rw none at (l .sums));
-      }
-
--- There are at most 255 list places in use.
-pub list-few : (s : List ℕ) (h : Head) → h ≡ unpackHead (getD s 0 0) → h .«list_length» ≤ 255
-list-few s h e = rw e (omega (arith, head-fits (getD s 0 0) .list))
-
--- A ledger's line by the words that read ledger handed back.
-module _ (b : Buffers) (k : ℕ) (words : List ℕ) (n : ℕ) (is : words ≡ readLedgerPart k b) (counted : n ≡ sumOf words) where
-  same-line : partLine k b ≡ ledgerLine k (length words) n
-  same-line = rw (counted, is)
-
-  pub part-room : {text : List ℕ} {at : ℕ} → Room text at (partLine k b) → Room text at (ledgerLine k (length words) n)
-  part-room {text} {at} h = subst (Room text at) same-line h
-
-  pub part-puts : {text text′ : List ℕ} {at at′ : ℕ} → Puts text at (ledgerLine k (length words) n) text′ at′ → PutsLedger b k text at text′ at′ n
-  part-puts {text} {text′} {at} {at′} p = record {
-    puts = subst (λ (line : List ℕ). Puts text at line text′ at′) (sym same-line) p;
-    sums = counted ∙ ap sumOf is;
-  }
-
--- After the ledgers' lines come those of the total.
-module _ {b : Buffers} {text text′ : List ℕ} {at total : ℕ} (l : Listed b text text′ at total) where
-  pub end-room : Room text 0 (logText b) → Room text′ at (endLines total)
-  unfolding logText
-  end-room h = subst (λ (n : ℕ). Room text′ at (endLines n)) (sym (l .sums)) (room-next (l .puts) _ h)
-
-  pub end-puts : {after : List ℕ} {end : ℕ} → Puts text′ at (endLines total) after end → Puts text 0 (logText b) after end
-  unfolding logText
-  end-puts {after} {end} p = puts-then (l .puts) (subst (λ (n : ℕ). Puts text′ at (endLines n) after end) (l .sums) p)
+      none : drop (p - 1) (held b .list) ≡ []
+      none = let q : length (held b .list) ≤ p - 1 = omega (arith, past) in drop-of-length-le (held b .list) q

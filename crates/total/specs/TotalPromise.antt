@@ -1,10 +1,9 @@
 -- What the run total promises: it is the sum over the accepted writes of the session's history. TotalTheorem proves it.
-use Prim.Native.Nat.{ℕ, _+_, _-_, _*_, _^_, _<_, _≤_}
+use Prim.Native.Nat.{ℕ, _-_, _*_, _^_, _<_, _≤_}
 use mathlib.Core.Path.{_≡_}
 use mathlib.Core.List.{List, [], _∷_, _++_, map}
 use lib.ListN.{length}
 use Rattle.text.specs.Bytes.{bytes}
-use Rattle.records.specs.Layout.{clientLimit}
 use Rattle.records.specs.declared.entry.Entry.{Entry}
 use Rattle.chain.specs.declared.answer.Answer.the-variants.{Done}
 use Rattle.chain.specs.Log.{ofLedger, entryLedger}
@@ -13,22 +12,18 @@ use Rattle.chain.specs.Operations.{stepAnswers, freshAnswer, afterFresh}
 use Rattle.chain.specs.Journal.{start, journal}
 use Rattle.chain.specs.Values.{sum, values}
 use Rattle.chain.specs.Promises.{told}
+use Rattle.totals.specs.TotalsPromise.{writesAlong}
 use Rattle.requests.specs.Lines.{Line, lines}
 use Rattle.requests.specs.Requests.{taken}
-use Rattle.requests.specs.Opening.{inputLimit, sessionCapacity}
 use Rattle.requests.specs.FirstLine.{firstLine}
 use Rattle.requests.specs.Begins.{blank}
 use Rattle.total.specs.Output.{ledgerLine, endLines, output}
 
--- A line for each of some ledgers, from the writes into it; and the sums of these lines, added up.
+-- A line for each of some ledgers, from the writes into it.
 unfoldable pub writesLines : List ℕ → List Entry → List ℕ
 writesLines [] es = []
 writesLines (k ∷ ks) es =
     ledgerLine k (length (ofLedger entryLedger k es)) (sum (values (ofLedger entryLedger k es))) ++ writesLines ks es
-
-unfoldable pub sumsAlong : List ℕ → List Entry → ℕ
-sumsAlong [] es = 0
-sumsAlong (k ∷ ks) es = sum (values (ofLedger entryLedger k es)) + sumsAlong ks es
 
 -- What the journal of a session's history tells, which is computed from the steps and their answers alone.
 abbrev pub listed : ℕ → List Line → List ℕ
@@ -43,9 +38,9 @@ pub record ShowsTotal (n : ℕ) (ls : List Line) (printed : List ℕ) : Type 0 w
   -- The total is the sum over the accepted writes, whatever the handovers.
   pub prints : printed ≡ writesLines (listed n ls) (accepted n ls) ++ endLines (sum (values (accepted n ls)))
   -- The ledgers' sums add up to it.
-  pub adds-up : sumsAlong (listed n ls) (accepted n ls) ≡ sum (values (accepted n ls))
+  pub adds-up : writesAlong (listed n ls) (accepted n ls) ≡ sum (values (accepted n ls))
   -- It is at most that of 4,096 writes of the largest value.
-  pub bounded : sum (values (accepted n ls)) ≤ sessionCapacity * (2 ^ 52 - 1)
+  pub bounded : sum (values (accepted n ls)) ≤ 4096 * (2 ^ 52 - 1)
 
 -- Two outputs that end in the same total and the same rounded line.
 pub record SameEnd (one other : List ℕ) (total : ℕ) : Type 0 where
@@ -56,13 +51,13 @@ pub record SameEnd (one other : List ℕ) (total : ℕ) : Type 0 where
 
 -- Every input is of one of three kinds. Two sessions that accepted the same values print the same total, whoever led.
 pub record TotalShowsHistory : Type 0 where
-  pub good : (n : ℕ) (rest : List ℕ) → 1 ≤ n → n ≤ clientLimit → length (firstLine n ++ rest) ≤ inputLimit
+  pub good : (n : ℕ) (rest : List ℕ) → 1 ≤ n → n ≤ 16 → length (firstLine n ++ rest) ≤ 16384
       → ShowsTotal n (lines rest) (output (firstLine n ++ rest))
-  pub bad-start : (input : List ℕ) → length input ≤ inputLimit
-      → ((n : ℕ) (rest : List ℕ) → 1 ≤ n → n ≤ clientLimit → input ≡ firstLine n ++ rest → ⊥)
+  pub bad-start : (input : List ℕ) → length input ≤ 16384
+      → ((n : ℕ) (rest : List ℕ) → 1 ≤ n → n ≤ 16 → input ≡ firstLine n ++ rest → ⊥)
       → output input ≡ bytes "bad start\n"
-  pub too-long : (input : List ℕ) → inputLimit < length input → output input ≡ bytes "too long\n"
-  pub same : (n m : ℕ) (one other : List ℕ) → 1 ≤ n → n ≤ clientLimit → 1 ≤ m → m ≤ clientLimit
-      → length (firstLine n ++ one) ≤ inputLimit → length (firstLine m ++ other) ≤ inputLimit
+  pub too-long : (input : List ℕ) → 16384 < length input → output input ≡ bytes "too long\n"
+  pub same : (n m : ℕ) (one other : List ℕ) → 1 ≤ n → n ≤ 16 → 1 ≤ m → m ≤ 16
+      → length (firstLine n ++ one) ≤ 16384 → length (firstLine m ++ other) ≤ 16384
       → values (accepted n (lines one)) ≡ values (accepted m (lines other))
       → SameEnd (output (firstLine n ++ one)) (output (firstLine m ++ other)) (sum (values (accepted n (lines one))))

@@ -1,61 +1,38 @@
 -- The promise of the run total holds.
-use Prim.Native.Nat.{ℕ, suc, _+_, _-_, _*_, _%_, _^_, _<_, _≤_}
+use Prim.Native.Nat.{ℕ, suc, _<_, _≤_}
 use native.Mathlib.Omega.{arith}
-use mathlib.Core.Path.{_≡_, refl, sym, ap, subst, _∙_}
-use mathlib.Core.List.{List, [], _∷_, _++_, map}
-use lib.ListN.{length, getD, length-map}
-use lib.Dec.{eqb}
-use Rattle.checks.specs.TestLaws.{by-bool}
+use mathlib.Core.Path.{_≡_, refl, sym, ap, _∙_}
+use mathlib.Core.List.{List, [], _∷_, _++_}
+use lib.ListN.{length, getD}
 use Rattle.records.specs.declared.entry.Entry.{Entry}
 use Rattle.records.specs.Layout.{clientLimit}
 use Rattle.chain.specs.Log.{ofLedger, entryLedger}
 use Rattle.chain.specs.Steps.{Step}
 use Rattle.chain.specs.Rights.{allRights}
-use Rattle.chain.specs.Operations.{Buffers, held, afterSteps, freshBuffers, afterFresh, readLedgerPart}
-use Rattle.chain.specs.Journal.{Journal, storedWord, chainWord}
-use Rattle.chain.specs.Values.{sum, sumOf, values}
-use Rattle.chain.specs.Promises.{after, told, ShowsHistory}
-use Rattle.chain.specs.Laws.Runs.{Good}
-use Rattle.chain.specs.Laws.Accepted.{Small, accepted-small}
-use Rattle.chain.specs.Laws.Values.{stored-values, chain-values}
+use Rattle.chain.specs.Operations.{Buffers, afterSteps}
+use Rattle.chain.specs.Journal.{Journal}
+use Rattle.chain.specs.Values.{sum, values}
+use Rattle.chain.specs.Promises.{after, told}
+use Rattle.totals.specs.declared.answer.SumAnswer.the-variants as sums
+use Rattle.totals.specs.Totals.{ledgerSum}
+use Rattle.totals.specs.TotalsPromise.{SumsHistory}
 use Rattle.requests.specs.Lines.{lines}
 use Rattle.requests.specs.Requests.{taken}
-use Rattle.requests.specs.Opening.{inputLimit, sessionCapacity, printed}
+use Rattle.requests.specs.Opening.{inputLimit, printed}
 use Rattle.requests.specs.FirstLine.{firstLine}
 use Rattle.requests.specs.Openings.{opens-good, opens-bad, opens-long}
-use Rattle.requests.specs.Begins.{blank, begun, left-by-fresh, history, stays-good}
-use Rattle.total.specs.Output.{endLines, ledgerLines, sumAlong, logText, sessionTotal, output}
-use Rattle.total.specs.TotalPromise.{writesLines, sumsAlong, listed, accepted, ShowsTotal, TotalShowsHistory}
-use Rattle.total.specs.Summed.{log-sum, sums-bound}
+use Rattle.requests.specs.Begins.{blank, begun, left-by-fresh, history}
+use Rattle.total.specs.Output.{lineOf, endOf, endLines, ledgerLines, logText, sessionTotal, output}
+use Rattle.total.specs.TotalPromise.{writesLines, listed, accepted, ShowsTotal, TotalShowsHistory}
+use Rattle.total.specs.Summed as sessions
 
-small-of : (k : ℕ) (es : List Entry) → Small es → Small (ofLedger entryLedger k es)
-unfolding ofLedger
-small-of k [] s = tt
-small-of k (e ∷ es) s = by-bool (eqb (entryLedger e) k) (λ t. rw t (s .0, small-of k es (s .1))) (λ t. rw t (small-of k es (s .1)))
-
--- Some ledgers, each with the writes into it as its part.
-module _ (b : Buffers) (es : List Entry) (small : Small es) where
-  abbrev Holds : List ℕ → Type 0
-  Holds ks = (i : ℕ) → i < length ks → readLedgerPart (getD ks i 0) b ≡ map storedWord (ofLedger entryLedger (getD ks i 0) es)
-
-  part-sum : (k : ℕ) → readLedgerPart k b ≡ map storedWord (ofLedger entryLedger k es)
-      → sumOf (readLedgerPart k b) ≡ sum (values (ofLedger entryLedger k es))
-  part-sum k e = ap sumOf e ∙ ap sum (stored-values (ofLedger entryLedger k es) (small-of k es small))
-
-  part-length : (k : ℕ) → readLedgerPart k b ≡ map storedWord (ofLedger entryLedger k es)
-      → length (readLedgerPart k b) ≡ length (ofLedger entryLedger k es)
-  part-length k e = ap (length {A = ℕ}) e ∙ length-map (ofLedger entryLedger k es) storedWord
-
-  lines-show : (ks : List ℕ) → Holds ks → ledgerLines ks b ≡ writesLines ks es
-  unfolding ledgerLines writesLines
-  lines-show [] h = refl
-  lines-show (k ∷ ks) h = let e = h 0 (omega arith) in
-      rw (part-length k e, part-sum k e, lines-show ks (λ i l. h (suc i) (omega arith)))
-
-  sums-show : (ks : List ℕ) → Holds ks → sumAlong ks b ≡ sumsAlong ks es
-  unfolding sumAlong sumsAlong
-  sums-show [] h = refl
-  sums-show (k ∷ ks) h = omega (arith, part-sum k (h 0 (omega arith)), sums-show ks (λ i l. h (suc i) (omega arith)))
+-- Some ledgers, each summed over the writes into it.
+lines-show : (b : Buffers) (es : List Entry) (ks : List ℕ)
+    → ((i : ℕ) → i < length ks → ledgerSum (getD ks i 0) b ≡ sums.Sum (record { entries = length (ofLedger entryLedger (getD ks i 0) es); sum = sum (values (ofLedger entryLedger (getD ks i 0) es)) }))
+    → ledgerLines ks b ≡ writesLines ks es
+unfolding ledgerLines writesLines
+lines-show b es [] h = refl
+lines-show b es (k ∷ ks) h = λ i. lineOf k (h 0 (omega arith) i) ++ lines-show b es ks (λ m l. h (suc m) (omega arith)) i
 
 -- The log that a session's steps lead to.
 module _ (n : ℕ) (some : 1 ≤ n) (few : n ≤ clientLimit) (xs : List Step) where
@@ -65,43 +42,15 @@ module _ (n : ℕ) (some : 1 ≤ n) (few : n ≤ clientLimit) (xs : List Step) w
   abbrev j : Journal
   j = told n blank xs
 
-  shows : ShowsHistory b j
-  shows = history n some few xs
-
-  small : Small (j .accepted)
-  small = accepted-small xs (afterFresh n blank)
-
-  is : b ≡ afterSteps xs (freshBuffers sessionCapacity n)
-  is = ap (afterSteps xs) (left-by-fresh n some few)
-
-  good : Good b
-  good = subst Good (sym is) (stays-good n some few xs)
-
-  parts : (i : ℕ) → i < length (j .listed) → readLedgerPart (getD (j .listed) i 0) b ≡ map storedWord (ofLedger entryLedger (getD (j .listed) i 0) (j .accepted))
-  parts i h = shows .ledger (getD (j .listed) i 0) (i, h, refl) .1
-
-  total-shows : sumAlong (j .listed) b ≡ sum (values (j .accepted))
-  total-shows =
-      ap (λ (ks : List ℕ). sumAlong ks b) (sym (shows .listed))
-      ∙ log-sum b good
-      ∙ ap sumOf (shows .reading)
-      ∙ ap sum (chain-values (j .accepted) small)
+  summed : SumsHistory b j
+  summed = sessions.sums n some few xs
 
   pub log-shows : logText b ≡ writesLines (j .listed) (j .accepted) ++ endLines (sum (values (j .accepted)))
   unfolding logText
-  log-shows = rw (shows .listed, total-shows, lines-show b (j .accepted) small (j .listed) parts)
-
-  pub adds-up : sumsAlong (j .listed) (j .accepted) ≡ sum (values (j .accepted))
-  adds-up = sym (sums-show b (j .accepted) small (j .listed) parts) ∙ total-shows
-
-  pub bounded : sum (values (j .accepted)) ≤ sessionCapacity * (2 ^ 52 - 1)
-  bounded = omega (
-    arith,
-    total-shows,
-    ap (λ (ks : List ℕ). sumAlong ks b) (shows .listed),
-    ap (λ (d : Buffers). sumAlong (held d .list) d) is,
-    sums-bound n some few xs,
-  )
+  log-shows =
+      (λ i. ledgerLines (history n some few xs .listed i) b ++ endOf (summed .total i))
+      ∙ ap (λ (l : List ℕ). l ++ endLines (sum (values (j .accepted))))
+      (lines-show b (j .accepted) (j .listed) (λ i h. summed .ledger (getD (j .listed) i 0) (i, h, refl)))
 
 module _ (n : ℕ) (some : 1 ≤ n) (few : n ≤ clientLimit) where
   printed-total : (rest : List ℕ) → length (firstLine n ++ rest) ≤ inputLimit
@@ -116,8 +65,8 @@ module _ (n : ℕ) (some : 1 ≤ n) (few : n ≤ clientLimit) where
   good-total rest h = record {
     begins = begun n some few;
     prints = printed-total rest h;
-    adds-up = adds-up n some few (taken (allRights n) (lines rest));
-    bounded = bounded n some few (taken (allRights n) (lines rest));
+    adds-up = summed n some few (taken (allRights n) (lines rest)) .adds-up;
+    bounded = summed n some few (taken (allRights n) (lines rest)) .bounded;
   }
 
 pub total-shows-history : TotalShowsHistory

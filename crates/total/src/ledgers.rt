@@ -1,18 +1,11 @@
-// The listed ledgers, in the order of the list: a line for each, and their sums added up.
-use records::layout::FIRST_PLACE;
+// The listed ledgers, in the order of the list: a line for each. The list and the sums are answers of the log's own operations.
+use chain::answer::PlaceAnswer;
 use records::numbers::LedgerNumber;
-ghost use Prim.Native.Nat.{_≤_};
-ghost use lib.ListN.{length};
-ghost use Rattle.text.specs.Puts.{Room};
-ghost use Rattle.chain.specs.Operations.{buffers, held, readLedgerPart};
+use records::numbers::ListPlace;
+use totals::answer::SumAnswer;
+ghost use Rattle.text.specs.Puts.{Puts, Room};
+ghost use Rattle.chain.specs.Operations.{buffers, held, IsLog};
 ghost use Rattle.total.specs.Output.{partLine, ledgerLines};
-ghost use Rattle.total.specs.Listing.{PutsLedger, Summable, Listed};
-
-// Where the text then ends, and the sum of what was put into it.
-pub struct Summed {
-    pub at: usize,
-    pub sum: u64,
-}
 
 fn put_ledger(
     state: &[u64],
@@ -20,33 +13,33 @@ fn put_ledger(
     ledger: LedgerNumber,
     text: &mut [u8],
     at: usize,
-) -> Summed
-    requires few { ⌜ length (readLedgerPart (ledger .0) (buffers (now state) (now entries))) ≤ 4096 ⌝ }
-    requires room { ⌜ Room (now text) at (partLine (ledger .0) (buffers (now state) (now entries))) ⌝ }
-    ensures { λ r. ⌜ PutsLedger (buffers (now (state .entry)) (now (entries .entry))) (ledger .0) (now (text .entry)) at (now (text .exit)) (r .at) (r .sum) ⌝ }
+) -> usize
+    requires { ⌜ Room (now text) at (partLine (ledger .0) (buffers (now state) (now entries))) ⌝ }
+    ensures { λ r. ⌜ Puts (now (text .entry)) at (partLine (ledger .0) (buffers (now (state .entry)) (now (entries .entry)))) (now (text .exit)) r ⌝ }
 {
-    let part = readers::read_ledger::read_ledger(state, entries, ledger);
-    let sum = crate::sums::sum_of(part);
-    let end = crate::lines::put_ledger_line(text, at, ledger.0, part.len() as u64, sum);
-    Summed { at: end, sum }
+    let sum = totals::ledger_sum::ledger_sum(state, entries, ledger);
+    match sum {
+        SumAnswer::Sum(s) => crate::lines::put_ledger_line(text, at, ledger, s),
+        SumAnswer::Refused(_) => at,
+    }
 }
 
-pub fn put_ledgers(state: &[u64], entries: &[u64], text: &mut [u8]) -> Summed
-    requires log { ⌜ Summable (buffers (now state) (now entries)) ⌝ }
+// Place after place, until the list has no more.
+pub fn put_ledgers(state: &[u64], entries: &[u64], text: &mut [u8]) -> usize
+    requires log { ⌜ IsLog (buffers (now state) (now entries)) ⌝ }
     requires room { ⌜ Room (now text) 0 (ledgerLines (held (buffers (now state) (now entries)) .list) (buffers (now state) (now entries))) ⌝ }
-    ensures { λ r. ⌜ Listed (buffers (now (state .entry)) (now (entries .entry))) (now (text .entry)) (now (text .exit)) (r .at) (r .sum) ⌝ }
+    ensures { λ r. ⌜ Puts (now (text .entry)) 0 (ledgerLines (held (buffers (now (state .entry)) (now (entries .entry))) .list) (buffers (now (state .entry)) (now (entries .entry)))) (now (text .exit)) r ⌝ }
 {
-    let h = records::head::load_head(state);
-    let end = FIRST_PLACE + h.list_length as usize;
     let mut at: usize = 0;
-    let mut total: u64 = 0;
-    let mut i = FIRST_PLACE;
-    while i < end {
-        let l = records::place::place_of(state[i]);
-        let ledger = put_ledger(state, entries, l, text, at);
-        at = ledger.at;
-        total += ledger.sum;
-        i += 1;
+    let mut place: u64 = 1;
+    loop {
+        let found = readers::ledger_at::ledger_at(state, entries, ListPlace(place));
+        match found {
+            PlaceAnswer::Refused(_) => return at,
+            PlaceAnswer::Ledger(l) => {
+                at = put_ledger(state, entries, l, text, at);
+                place += 1;
+            }
+        }
     }
-    Summed { at, sum: total }
 }

@@ -2,7 +2,6 @@
 mod ledgers;
 mod lines;
 pub mod start;
-mod sums;
 
 use text::lent::Printed;
 ghost use mathlib.Core.Path.{_≡_};

@@ -1,40 +1,44 @@
 // The lines of the output.
+use records::numbers::LedgerNumber;
+use totals::answer::LedgerSum;
+use totals::answer::RunTotal;
 ghost use Rattle.text.specs.Puts.{Puts, Room};
-ghost use Rattle.total.specs.Output.{sumLine, ledgerLine, roundedLine, endLines};
+ghost use Rattle.total.specs.Output.{ledgerLine, totalLine, roundedLine, totalLines};
 
-// A phrase, an amount with all its decimals, and the line's end.
-fn put_sum_line(text: &mut [u8], at: usize, word: &[u8], sum: u64) -> usize
-    requires { ⌜ Room (now text) at (sumLine (now word) sum) ⌝ }
-    ensures { λ r. ⌜ Puts (now (text .entry)) at (sumLine (now (word .entry)) sum) (now (text .exit)) r ⌝ }
+pub fn put_ledger_line(text: &mut [u8], at: usize, ledger: LedgerNumber, s: LedgerSum) -> usize
+    requires { ⌜ Room (now text) at (ledgerLine (ledger .0) (s .entries) (s .sum)) ⌝ }
+    ensures { λ r. ⌜ Puts (now (text .entry)) at (ledgerLine (ledger .0) (s .entries) (s .sum)) (now (text .exit)) r ⌝ }
 {
-    let e = text::phrase::put_phrase(text, at, word);
-    let f = amounts::fixed::put_exact(text, e, sum);
+    let e = text::decimal::put_counted(text, at, b"ledger ", ledger.0);
+    let f = text::decimal::put_counted(text, e, b" entries ", s.entries);
+    let g = text::phrase::put_phrase(text, f, b" sum ");
+    let h = amounts::fixed::put_exact(text, g, s.sum);
+    text::phrase::put_byte(text, h, b'\n')
+}
+
+fn put_total_line(text: &mut [u8], at: usize, ones: u64, parts: u64) -> usize
+    requires { ⌜ Room (now text) at (totalLine ones parts) ⌝ }
+    ensures { λ r. ⌜ Puts (now (text .entry)) at (totalLine ones parts) (now (text .exit)) r ⌝ }
+{
+    let e = text::phrase::put_phrase(text, at, b"total ");
+    let f = amounts::fixed::put_pointed(text, e, ones, 12, parts);
     text::phrase::put_byte(text, f, b'\n')
 }
 
-pub fn put_ledger_line(text: &mut [u8], at: usize, ledger: u64, count: u64, sum: u64) -> usize
-    requires { ⌜ Room (now text) at (ledgerLine ledger count sum) ⌝ }
-    ensures { λ r. ⌜ Puts (now (text .entry)) at (ledgerLine ledger count sum) (now (text .exit)) r ⌝ }
-{
-    let e = text::decimal::put_counted(text, at, b"ledger ", ledger);
-    let f = text::decimal::put_counted(text, e, b" entries ", count);
-    put_sum_line(text, f, b" sum ", sum)
-}
-
-fn put_rounded_line(text: &mut [u8], at: usize, total: u64) -> usize
-    requires { ⌜ Room (now text) at (roundedLine total) ⌝ }
-    ensures { λ r. ⌜ Puts (now (text .entry)) at (roundedLine total) (now (text .exit)) r ⌝ }
+fn put_rounded_line(text: &mut [u8], at: usize, thousandths: u64) -> usize
+    requires { ⌜ Room (now text) at (roundedLine thousandths) ⌝ }
+    ensures { λ r. ⌜ Puts (now (text .entry)) at (roundedLine thousandths) (now (text .exit)) r ⌝ }
 {
     let e = text::phrase::put_phrase(text, at, b"rounded ");
-    let f = amounts::fixed::put_rounded(text, e, total);
+    let f = amounts::fixed::put_thousandths(text, e, thousandths);
     text::phrase::put_byte(text, f, b'\n')
 }
 
 // The total, exact and rounded.
-pub fn put_end(text: &mut [u8], at: usize, total: u64) -> usize
-    requires { ⌜ Room (now text) at (endLines total) ⌝ }
-    ensures { λ r. ⌜ Puts (now (text .entry)) at (endLines total) (now (text .exit)) r ⌝ }
+pub fn put_end(text: &mut [u8], at: usize, t: RunTotal) -> usize
+    requires { ⌜ Room (now text) at (totalLines t) ⌝ }
+    ensures { λ r. ⌜ Puts (now (text .entry)) at (totalLines t) (now (text .exit)) r ⌝ }
 {
-    let e = put_sum_line(text, at, b"total ", total);
-    put_rounded_line(text, e, total)
+    let e = put_total_line(text, at, t.ones, t.parts);
+    put_rounded_line(text, e, t.rounded)
 }

@@ -2,16 +2,17 @@
 use records::layout::STATE_LENGTH;
 use requests::start::CAPACITY;
 use requests::start::Start;
+use totals::answer::TotalAnswer;
 ghost use mathlib.Core.Path.{_≡_};
 ghost use Prim.Native.Nat.{_≤_};
 ghost use lib.ListN.{length, drop};
 ghost use Rattle.text.specs.Puts.{Puts, Room};
-ghost use Rattle.chain.specs.Operations.{buffers, afterSteps};
+ghost use Rattle.chain.specs.Operations.{buffers, afterSteps, IsLog};
+ghost use Rattle.totals.specs.Totals.{runTotal};
 ghost use Rattle.requests.specs.Lines.{lines};
 ghost use Rattle.requests.specs.Requests.{taken};
 ghost use Rattle.requests.specs.Starts.{Begun};
-ghost use Rattle.total.specs.Output.{logText, sessionTotal, output};
-ghost use Rattle.total.specs.Listing.{Summable};
+ghost use Rattle.total.specs.Output.{endOf, logText, sessionTotal, output};
 
 // Takes the lines from a place of the input on.
 fn run_lines(input: &[u8], from: usize, state: &mut [u64], entries: &mut [u64], rights: &[u64])
@@ -26,13 +27,24 @@ fn run_lines(input: &[u8], from: usize, state: &mut [u64], entries: &mut [u64], 
     }
 }
 
+fn put_total(state: &[u64], entries: &[u64], text: &mut [u8], at: usize) -> usize
+    requires { ⌜ Room (now text) at (endOf (runTotal (buffers (now state) (now entries)))) ⌝ }
+    ensures { λ r. ⌜ Puts (now (text .entry)) at (endOf (runTotal (buffers (now (state .entry)) (now (entries .entry))))) (now (text .exit)) r ⌝ }
+{
+    let total = totals::run_total::run_total(state, entries);
+    match total {
+        TotalAnswer::Total(t) => crate::lines::put_end(text, at, t),
+        TotalAnswer::Refused(_) => at,
+    }
+}
+
 fn put_log(state: &[u64], entries: &[u64], text: &mut [u8]) -> usize
-    requires log { ⌜ Summable (buffers (now state) (now entries)) ⌝ }
+    requires log { ⌜ IsLog (buffers (now state) (now entries)) ⌝ }
     requires room { ⌜ Room (now text) 0 (logText (buffers (now state) (now entries))) ⌝ }
     ensures { λ r. ⌜ Puts (now (text .entry)) 0 (logText (buffers (now (state .entry)) (now (entries .entry)))) (now (text .exit)) r ⌝ }
 {
-    let ledgers = crate::ledgers::put_ledgers(state, entries, text);
-    crate::lines::put_end(text, ledgers.at, ledgers.sum)
+    let e = crate::ledgers::put_ledgers(state, entries, text);
+    put_total(state, entries, text, e)
 }
 
 // A session on a log of its own, in which each client has all its rights.

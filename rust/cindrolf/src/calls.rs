@@ -51,8 +51,8 @@
 
 pub use crate::storage::{rearrange, restore};
 use crate::{
-    Advice, CloseLast, Error, Finish, Forecast, LedgerNumber, MarkName, Position, Progress, ReadingPlace, Refusal,
-    Said, answer, raw,
+    Advice, CloseLast, Error, Finish, Forecast, LedgerNumber, LedgerSum, ListPlace, MarkName, Position, Progress,
+    ReadingPlace, Refusal, RunTotal, Said, answer, raw,
 };
 
 /// Makes the buffers an empty log for 1 to 16 clients, of which client 0 is the named leader.
@@ -282,6 +282,33 @@ fn words_read(read: raw::ChainCount, room: usize) -> Result<usize, Error> {
     answer::done(read.answer)?;
     let count = read.count as usize;
     if count <= room { Ok(count) } else { Err(Error::UnknownAnswer(read.count)) }
+}
+
+/// The ledger at this place of the list. Places count from 1; one that the list doesn't have is refused as not listed.
+pub fn ledger_at(state: &[u64], entries: &[u64], place: ListPlace) -> Result<LedgerNumber, Error> {
+    // SAFETY: nothing is changed, and the place is any number; the answer is a struct of two numbers.
+    let listed =
+        unsafe { raw::cindrolf_ledger_at(state.as_ptr(), state.len(), entries.as_ptr(), entries.len(), place.0) };
+    answer::done(listed.answer)?;
+    Ok(LedgerNumber(listed.ledger))
+}
+
+/// How many entries a listed ledger has, and the sum of their values.
+pub fn ledger_sum(state: &[u64], entries: &[u64], ledger: LedgerNumber) -> Result<LedgerSum, Error> {
+    // SAFETY: nothing is changed, and the ledger is any number; the answer is a struct of three numbers.
+    let raw::SummedLedger { answer, entries, sum } =
+        unsafe { raw::cindrolf_ledger_sum(state.as_ptr(), state.len(), entries.as_ptr(), entries.len(), ledger.0) };
+    answer::done(answer)?;
+    Ok(LedgerSum { entries, sum })
+}
+
+/// The sum of the values of all listed ledgers, exact and rounded once.
+pub fn run_total(state: &[u64], entries: &[u64]) -> Result<RunTotal, Error> {
+    // SAFETY: nothing is changed; the answer is a struct of four numbers.
+    let raw::SummedRun { answer, ones, parts, rounded } =
+        unsafe { raw::cindrolf_run_total(state.as_ptr(), state.len(), entries.as_ptr(), entries.len()) };
+    answer::done(answer)?;
+    Ok(RunTotal { ones, parts, rounded })
 }
 
 /// The start of the first window of the chain reading whose values come to more than the limit, or none. A window is

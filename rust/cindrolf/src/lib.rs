@@ -89,6 +89,29 @@
 //! # Ok::<(), Error>(())
 //! ```
 //!
+//! The sum of the run beside its parts, in parts of 10^-12: ledger after ledger along the list, then the whole, exact and
+//! rounded once.
+//!
+//! ```
+//! use cindrolf::{Error, LedgerNumber, LedgerSum, ListPlace, Log, Refusal, RunTotal};
+//!
+//! let mut log = Log::fresh(1)?;
+//! log.become_leader(0)?;
+//! log.fetch(0)?;
+//! log.create(0)?;
+//! let _ = log.append(0)?;
+//! log.write(0, 1_400_000_000)?;
+//! log.write(0, 100_000_000)?;
+//!
+//! assert_eq!(log.ledger_at(ListPlace(1))?, LedgerNumber(1));
+//! assert_eq!(log.ledger_at(ListPlace(2)), Err(Error::Refused(Refusal::NotListed)));
+//! assert_eq!(log.ledger_sum(LedgerNumber(1))?, LedgerSum { entries: 2, sum: 1_500_000_000 });
+//! let total = log.run_total()?;
+//! assert_eq!(total, RunTotal { ones: 0, parts: 1_500_000_000, rounded: 2 });
+//! assert_eq!(total.to_string(), "0.001500000000");
+//! # Ok::<(), Error>(())
+//! ```
+//!
 //! A named point of a run, to return to: what was stored before the wash. Marks are kept in a third buffer, of
 //! [`MARK_WORDS`] words, in which zeros keep none. Persist it with the log, or after it: a mark with more entries than
 //! the log has is refused.
@@ -221,6 +244,7 @@ mod plan;
 pub mod raw;
 mod rights;
 mod storage;
+mod total;
 mod version;
 mod view;
 
@@ -234,6 +258,7 @@ pub use mark::MarkName;
 pub use plan::{Forecast, Step, StepWord};
 pub use rights::{Right, Rights};
 pub use storage::{rearrange, restore};
+pub use total::{LedgerSum, RunTotal};
 pub use version::{VERSION, check_version};
 pub use view::{Client, Entry, Ledger, ListPlace, Remembered, Stage, View};
 

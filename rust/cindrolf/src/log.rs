@@ -1,8 +1,9 @@
 //! A log that owns its buffers, and logs that borrow them.
 
 use crate::{
-    Advice, Answer, Capacity, CloseLast, Error, Finish, Forecast, LedgerNumber, MarkName, Position, Progress,
-    ReadingPlace, Refusal, Rights, STATE_WORDS, Step, StepWord, View, calls, check_version,
+    Advice, Answer, Capacity, CloseLast, Error, Finish, Forecast, LedgerNumber, LedgerSum, ListPlace, MarkName,
+    Position, Progress, ReadingPlace, Refusal, Rights, RunTotal, STATE_WORDS, Step, StepWord, View, calls,
+    check_version,
 };
 
 /// A log that owns its two buffers.
@@ -221,6 +222,21 @@ impl<'a> LogRef<'a> {
     /// how many they are. As many words as the entry buffer has are enough for every log that began fresh.
     pub fn read_chain(&self, output: &mut [u64]) -> Result<usize, Error> {
         calls::read_chain(self.state, self.entries, output)
+    }
+
+    /// The ledger at this place of the list. Places count from 1; one that the list doesn't have is refused as not listed.
+    pub fn ledger_at(&self, place: ListPlace) -> Result<LedgerNumber, Error> {
+        calls::ledger_at(self.state, self.entries, place)
+    }
+
+    /// How many entries a listed ledger has, and the sum of their values.
+    pub fn ledger_sum(&self, ledger: LedgerNumber) -> Result<LedgerSum, Error> {
+        calls::ledger_sum(self.state, self.entries, ledger)
+    }
+
+    /// The sum of the values of all listed ledgers, exact and rounded once.
+    pub fn run_total(&self) -> Result<RunTotal, Error> {
+        calls::run_total(self.state, self.entries)
     }
 
     /// Where the first window of the chain reading starts whose values come to more than the limit, or none. A window
@@ -443,6 +459,22 @@ macro_rules! operations {
             /// and answers how many they are.
             pub fn read_chain(&self, output: &mut [u64]) -> Result<usize, Error> {
                 self.as_ref().read_chain(output)
+            }
+
+            /// The ledger at this place of the list. Places count from 1; one that the list doesn't have is refused as
+            /// not listed.
+            pub fn ledger_at(&self, place: ListPlace) -> Result<LedgerNumber, Error> {
+                self.as_ref().ledger_at(place)
+            }
+
+            /// How many entries a listed ledger has, and the sum of their values.
+            pub fn ledger_sum(&self, ledger: LedgerNumber) -> Result<LedgerSum, Error> {
+                self.as_ref().ledger_sum(ledger)
+            }
+
+            /// The sum of the values of all listed ledgers, exact and rounded once.
+            pub fn run_total(&self) -> Result<RunTotal, Error> {
+                self.as_ref().run_total()
             }
 
             /// Where the first window of the chain reading starts whose values come to more than the limit, or none. A

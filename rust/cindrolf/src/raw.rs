@@ -15,6 +15,27 @@ pub struct ChainCount {
 }
 
 #[repr(C)]
+pub struct ListedLedger {
+    pub answer: u64,
+    pub ledger: u64,
+}
+
+#[repr(C)]
+pub struct SummedLedger {
+    pub answer: u64,
+    pub entries: u64,
+    pub sum: u64,
+}
+
+#[repr(C)]
+pub struct SummedRun {
+    pub answer: u64,
+    pub ones: u64,
+    pub parts: u64,
+    pub rounded: u64,
+}
+
+#[repr(C)]
 pub struct WindowFound {
     pub answer: u64,
     pub found: u64,
@@ -168,6 +189,26 @@ unsafe extern "C" {
         output: *mut u64,
         output_len: usize,
     ) -> ChainCount;
+    pub fn cindrolf_ledger_at(
+        state: *const u64,
+        state_len: usize,
+        entries: *const u64,
+        entries_len: usize,
+        place: u64,
+    ) -> ListedLedger;
+    pub fn cindrolf_ledger_sum(
+        state: *const u64,
+        state_len: usize,
+        entries: *const u64,
+        entries_len: usize,
+        ledger: u64,
+    ) -> SummedLedger;
+    pub fn cindrolf_run_total(
+        state: *const u64,
+        state_len: usize,
+        entries: *const u64,
+        entries_len: usize,
+    ) -> SummedRun;
     pub fn cindrolf_first_window(
         state: *const u64,
         state_len: usize,

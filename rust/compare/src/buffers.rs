@@ -53,7 +53,7 @@ pub fn compare(subject: Subject, sides: &mut Sides, random: &mut Random) -> Resu
 /// The calls to try: each step by a client at any stage and by one at the step's own stage, under rights or without, then the others.
 fn calls(random: &mut Random, buffers: &Buffers) -> Vec<Call> {
     let head = head(buffers);
-    let mut calls = vec![Call::WellFormed, Call::ReadChain, Call::ReadChain];
+    let mut calls = vec![Call::WellFormed, Call::ReadChain, Call::ReadChain, Call::RunTotal];
     for kind in Step::ALL {
         let step = with_any_input(random, kind);
         calls.push(any_call(random)(any_client(random, head.client_count), step));
@@ -71,6 +71,8 @@ fn calls(random: &mut Random, buffers: &Buffers) -> Vec<Call> {
     for _ in 0..2 {
         calls.push(Call::Advise(any_client(random, head.client_count)));
         calls.push(Call::ReadLedger(any_ledger(random, &head, buffers)));
+        calls.push(Call::LedgerAt(any_place(random, &head)));
+        calls.push(Call::LedgerSum(any_ledger(random, &head, buffers)));
         calls.push(Call::Fresh(any_count(random)));
         calls.push(any_window(random, &reading));
     }
@@ -139,6 +141,15 @@ fn any_ledger(random: &mut Random, head: &Head, buffers: &Buffers) -> u64 {
             let place = 272 + random.below(head.list_length.max(1)) as usize;
             buffers.state.get(place).copied().unwrap_or(0) >> 56
         }
+    }
+}
+
+/// A list place, often the last one or one beside the list's ends.
+fn any_place(random: &mut Random, head: &Head) -> u64 {
+    match random.below(4) {
+        0 => random.pick(&[0, 1, 255, 256, (1 << 32) + 1, u64::MAX]),
+        1 => random.pick(&[head.list_length, head.list_length + 1]),
+        _ => random.between(1, head.list_length.max(1)),
     }
 }
 
@@ -323,14 +334,16 @@ fn any_client_word(random: &mut Random, head: &Head) -> u64 {
     Client { leads: (stage != 0) as u64, stage, list_version, ledger, open, version, recovering }.word()
 }
 
-/// Entries whose ledger numbers never fall, in a few runs.
+/// Entries whose ledger numbers never fall, in a few runs. In some logs every value is the greatest.
 fn fill_entries(random: &mut Random, head: &Head, entries: &mut [u64]) {
+    let greatest = random.below(8) == 0;
     let mut ledger = 1;
     let rise = 1 + random.below(head.entry_count.max(1));
     for word in &mut entries[..head.entry_count as usize] {
         if random.below(rise) == 0 && ledger < head.next_ledger - 1 {
             ledger += random.below(head.next_ledger - ledger);
         }
-        *word = Entry { ledger, client: random.below(head.client_count), value: random.word() >> 12 }.word();
+        let value = if greatest { u64::MAX } else { random.word() } >> 12;
+        *word = Entry { ledger, client: random.below(head.client_count), value }.word();
     }
 }

@@ -69,6 +69,12 @@ pub enum Call {
     ReadLedger(u64),
     /// Read chain.
     ReadChain,
+    /// The ledger at a list place, with the place.
+    LedgerAt(u64),
+    /// The sum of a ledger, with its number.
+    LedgerSum(u64),
+    /// The run total.
+    RunTotal,
     /// The search for a window, with its length and the limit.
     FirstWindow(u64, u64),
     /// Setting a mark, with its name.
@@ -120,6 +126,33 @@ pub enum Outcome {
         /// How many words it wrote.
         count: u64,
     },
+    /// The answer of a list place, and the ledger there, 0 on a refusal.
+    Listed {
+        /// Done or a refusal.
+        answer: Answer,
+        /// Its number.
+        ledger: u64,
+    },
+    /// The answer of a ledger's sum, its entries and the sum of their values, both 0 on a refusal.
+    Sum {
+        /// Done or a refusal.
+        answer: Answer,
+        /// How many entries it has.
+        entries: u64,
+        /// What their values come to.
+        sum: u64,
+    },
+    /// The answer of the run total, and its three numbers, all 0 on a refusal.
+    Total {
+        /// Done or a refusal.
+        answer: Answer,
+        /// Whole units of 10^12 parts.
+        ones: u64,
+        /// The parts beside them.
+        parts: u64,
+        /// The whole in thousandths of a unit.
+        rounded: u64,
+    },
     /// The answer of the search for a window, whether it found one, and its start: 0 and 0 where it found none.
     Window {
         /// Done or a refusal.
@@ -144,6 +177,9 @@ impl Outcome {
             Outcome::Answer(answer)
             | Outcome::Part { answer, .. }
             | Outcome::Count { answer, .. }
+            | Outcome::Listed { answer, .. }
+            | Outcome::Sum { answer, .. }
+            | Outcome::Total { answer, .. }
             | Outcome::Window { answer, .. } => Some(*answer),
             Outcome::WellFormed(_)
             | Outcome::Advice(_)
@@ -155,8 +191,9 @@ impl Outcome {
 
     /// Whether the call may have changed a buffer.
     pub fn changes(&self) -> bool {
-        use Outcome::{Advice, Forecast, Part, WellFormed, Window};
-        let reads = matches!(self, WellFormed(_) | Advice(_) | Part { .. } | Window { .. } | Forecast(_));
+        use Outcome::{Advice, Forecast, Listed, Part, Sum, Total, WellFormed, Window};
+        let reads = matches!(self, WellFormed(_) | Advice(_) | Part { .. } | Window { .. } | Forecast(_))
+            || matches!(self, Listed { .. } | Sum { .. } | Total { .. });
         !reads && !matches!(self.answer(), Some(Answer::Refused(_)))
     }
 }
@@ -181,6 +218,9 @@ pub fn model(call: Call, lent: &mut Lent) -> Outcome {
             Err(number) => Outcome::Part { answer: Answer::Refused(number), start: 0, count: 0 },
         },
         Call::ReadChain => model_count(words::read_chain(state, entries, output)),
+        Call::LedgerAt(place) => listed(words::ledger_at(state, entries, place).map_err(Answer::Refused)),
+        Call::LedgerSum(ledger) => sum(words::ledger_sum(state, entries, ledger).map_err(Answer::Refused)),
+        Call::RunTotal => total(words::run_total(state, entries).map(in_numbers).map_err(Answer::Refused)),
         Call::FirstWindow(length, limit) => {
             window(words::first_window(state, entries, length, limit).map_err(Answer::Refused))
         }
@@ -195,6 +235,27 @@ fn model_count(given: Result<usize, u64>) -> Outcome {
         Ok(count) => Outcome::Count { answer: Answer::Done, count: count as u64 },
         Err(number) => Outcome::Count { answer: Answer::Refused(number), count: 0 },
     }
+}
+
+/// A total in parts of 10^-12 as ones of 10^12 of them, the parts beside those, and the whole in thousandths, a half rounded up.
+fn in_numbers(parts: u128) -> [u64; 3] {
+    [parts / 10_u128.pow(12), parts % 10_u128.pow(12), (parts + 500_000_000) / 10_u128.pow(9)]
+        .map(|number| number as u64)
+}
+
+fn listed(given: Result<u64, Answer>) -> Outcome {
+    let (answer, ledger) = given.map_or_else(|answer| (answer, 0), |ledger| (Answer::Done, ledger));
+    Outcome::Listed { answer, ledger }
+}
+
+fn sum(given: Result<(u64, u64), Answer>) -> Outcome {
+    let (answer, (entries, sum)) = given.map_or_else(|answer| (answer, (0, 0)), |sum| (Answer::Done, sum));
+    Outcome::Sum { answer, entries, sum }
+}
+
+fn total(given: Result<[u64; 3], Answer>) -> Outcome {
+    let (answer, [ones, parts, rounded]) = given.map_or_else(|answer| (answer, [0; 3]), |total| (Answer::Done, total));
+    Outcome::Total { answer, ones, parts, rounded }
 }
 
 fn window(given: Result<Option<u64>, Answer>) -> Outcome {
@@ -227,6 +288,9 @@ pub fn library(call: Call, lent: &mut Lent) -> Outcome {
         Call::Advise(client) => library_advice(state, entries, client),
         Call::ReadLedger(ledger) => library_ledger(lent, ledger),
         Call::ReadChain => library_chain(lent),
+        Call::LedgerAt(place) => library_place(lent, place),
+        Call::LedgerSum(ledger) => library_sum(lent, ledger),
+        Call::RunTotal => library_total(lent),
         Call::FirstWindow(length, limit) => library_window(lent, length, limit),
         Call::SetMark(name) => accepted(calls::set_mark(state, entries, marks, MarkName::from_word(name))),
         Call::DropMark(name) => accepted(calls::drop_mark(state, entries, marks, MarkName::from_word(name))),
@@ -321,6 +385,39 @@ fn library_count(given: cindrolf::raw::ChainCount, handed_on: Result<usize, cind
         Err(error) => Outcome::Count { answer: failed(error), count: given.count },
     };
     if outcome == handed_on { outcome } else { Outcome::NotHandedOn(Box::new(outcome)) }
+}
+
+fn library_place(lent: &Lent, place: u64) -> Outcome {
+    use cindrolf::{ListPlace, calls, raw};
+    let (state, entries) = (&*lent.state, &*lent.entries);
+    // SAFETY: both slices are valid for their lengths, and nothing is changed.
+    let given = unsafe { raw::cindrolf_ledger_at(state.as_ptr(), state.len(), entries.as_ptr(), entries.len(), place) };
+    let outcome = Outcome::Listed { answer: numbered(given.answer), ledger: given.ledger };
+    let handed_on = calls::ledger_at(state, entries, ListPlace(place)).map(|ledger| ledger.0);
+    if outcome == listed(handed_on.map_err(failed)) { outcome } else { Outcome::NotHandedOn(Box::new(outcome)) }
+}
+
+fn library_sum(lent: &Lent, ledger: u64) -> Outcome {
+    use cindrolf::{LedgerNumber, calls, raw};
+    let (state, entries) = (&*lent.state, &*lent.entries);
+    // SAFETY: both slices are valid for their lengths, and nothing is changed.
+    let given =
+        unsafe { raw::cindrolf_ledger_sum(state.as_ptr(), state.len(), entries.as_ptr(), entries.len(), ledger) };
+    let outcome = Outcome::Sum { answer: numbered(given.answer), entries: given.entries, sum: given.sum };
+    let handed_on = calls::ledger_sum(state, entries, LedgerNumber(ledger));
+    let handed_on = handed_on.map(|ledger| (ledger.entries, ledger.sum));
+    if outcome == sum(handed_on.map_err(failed)) { outcome } else { Outcome::NotHandedOn(Box::new(outcome)) }
+}
+
+fn library_total(lent: &Lent) -> Outcome {
+    use cindrolf::{calls, raw};
+    let (state, entries) = (&*lent.state, &*lent.entries);
+    // SAFETY: both slices are valid for their lengths, and nothing is changed.
+    let given = unsafe { raw::cindrolf_run_total(state.as_ptr(), state.len(), entries.as_ptr(), entries.len()) };
+    let raw::SummedRun { answer, ones, parts, rounded } = given;
+    let outcome = Outcome::Total { answer: numbered(answer), ones, parts, rounded };
+    let handed_on = calls::run_total(state, entries).map(|total| [total.ones, total.parts, total.rounded]);
+    if outcome == total(handed_on.map_err(failed)) { outcome } else { Outcome::NotHandedOn(Box::new(outcome)) }
 }
 
 fn library_window(lent: &Lent, length: u64, limit: u64) -> Outcome {

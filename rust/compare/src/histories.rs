@@ -74,7 +74,7 @@ pub fn compare(subject: Subject, sides: &mut Sides, random: &mut Random) -> Resu
 /// The next call of a history that has come to this state; before a run its forecast.
 fn next_turns(random: &mut Random, profile: &Profile, source: &Source) -> Vec<Turn> {
     let client_count = source.c_state.len() as u64;
-    let call = match random.below(50) {
+    let call = match random.below(53) {
         0 => Call::WellFormed,
         1 => Call::ReadLedger(random.below(source.md_next_lid + 1)),
         2 => Call::ReadChain,
@@ -82,6 +82,9 @@ fn next_turns(random: &mut Random, profile: &Profile, source: &Source) -> Vec<Tu
         4 | 5 => Call::Advise(any_client(random, client_count)),
         6..=9 => any_mark_call(random),
         10 if random.chance(50) => return any_run(random, profile, source),
+        50 => Call::LedgerAt(random.below(source.md_llist.len() as u64 + 2)),
+        51 => Call::LedgerSum(random.below(source.md_next_lid + 1)),
+        52 => Call::RunTotal,
         _ => {
             let (client, step) = profile.next(random, source);
             any_call(random)(client, step)
@@ -172,6 +175,7 @@ impl<'a> Run<'a> {
             (Call::ReadChain, Outcome::Count { answer: Answer::Done, count }) => {
                 self.sides.buffers().output[..*count as usize] == self.source.chain()
             }
+            (Call::LedgerAt(_) | Call::LedgerSum(_) | Call::RunTotal, _) => self.total_agrees(call, outcome),
             (Call::FirstWindow(length, limit), Outcome::Window { answer: Answer::Done, found, start }) => {
                 first_over(&self.source.chain(), length as usize, limit) == (*found == 1).then_some(*start as usize)
             }
@@ -182,6 +186,27 @@ impl<'a> Run<'a> {
             (Call::DropMark(name), outcome) => outcome.answer() == Some(self.drop_mark(name)),
             (Call::ReadMark(name), Outcome::Count { answer, count }) => self.mark_reading_agrees(name, *answer, *count),
             (_, outcome) => *outcome == Outcome::WellFormed(true),
+        }
+    }
+
+    /// The same for the list and the totals.
+    fn total_agrees(&self, call: Call, outcome: &Outcome) -> bool {
+        match (call, outcome) {
+            (Call::LedgerAt(place), Outcome::Listed { answer, ledger }) => {
+                let here = place.checked_sub(1).and_then(|index| self.source.md_llist.get(index as usize));
+                here.map_or((Answer::Refused(15), 0), |&here| (Answer::Done, here)) == (*answer, *ledger)
+            }
+            (Call::LedgerSum(ledger), Outcome::Sum { answer, entries, sum }) => {
+                let words = self.source.ledger(ledger);
+                let summed = words.map(|words| (Answer::Done, words.len() as u64, sum_of(&words)));
+                summed.unwrap_or((Answer::Refused(15), 0, 0)) == (*answer, *entries, *sum)
+            }
+            (Call::RunTotal, Outcome::Total { answer: Answer::Done, ones, parts, rounded }) => {
+                let total = sum_of(&self.source.chain());
+                let thousandths = total / 1_000_000_000 + u64::from(total % 1_000_000_000 >= 500_000_000);
+                (total / 1_000_000_000_000, total % 1_000_000_000_000, thousandths) == (*ones, *parts, *rounded)
+            }
+            _ => false,
         }
     }
 
@@ -273,10 +298,14 @@ fn run_source(source: &mut Source, lent: &[u64], plan: &[u64]) -> (Counts, u64) 
     (Counts { entries, ledgers, refusals }, at_limit)
 }
 
+/// What the values of some words come to. In a history that has at most 64 bits.
+fn sum_of(words: &[u64]) -> u64 {
+    words.iter().map(|word| word & ((1 << 52) - 1)).sum()
+}
+
 /// The first start of a stretch of a reading whose values come to more than the limit.
 fn first_over(reading: &[u64], length: usize, limit: u64) -> Option<usize> {
-    let over =
-        |start: &usize| reading[*start..start + length].iter().map(|word| word & ((1 << 52) - 1)).sum::<u64>() > limit;
+    let over = |start: &usize| sum_of(&reading[*start..start + length]) > limit;
     (0..(reading.len() + 1).saturating_sub(length)).find(over)
 }
 

@@ -23,8 +23,17 @@ pub fn undamaged(subject: Subject, sides: &mut Sides, log: &Named) -> Result<(),
     let windows = [(0, 0), (1, 0), (1, u64::MAX), (256, 0), (256, 1 << 40), (257, 0), (u64::MAX, 0)];
     let windows = windows.map(|(length, limit)| Call::FirstWindow(length, limit));
     let advice = (0..17).map(Call::Advise);
-    let readers = [Call::WellFormed, Call::ReadChain, Call::ReadLedger(1), Call::ReadLedger(255)];
-    let others = readers.into_iter().chain(windows).chain(advice).chain([Call::Fresh(4)]).chain(ON_MARKS).chain(runs);
+    let readers = [Call::WellFormed, Call::ReadChain, Call::ReadLedger(1), Call::ReadLedger(255), Call::RunTotal];
+    let listed = [0, 1, 2, 254, 255, 256, 257, 1 << 32, u64::MAX];
+    let listed = listed.into_iter().flat_map(|number| [Call::LedgerAt(number), Call::LedgerSum(number)]);
+    let others = readers
+        .into_iter()
+        .chain(listed)
+        .chain(windows)
+        .chain(advice)
+        .chain([Call::Fresh(4)])
+        .chain(ON_MARKS)
+        .chain(runs);
     for call in steps.chain(others) {
         sides.set(&buffers);
         match sides.call(call) {

@@ -7,7 +7,7 @@ use std::fmt;
 
 /// The operations, in the reference's order, each with the answers that it can give: 1 to 25 are refusals. None gives 14. A step
 /// counts the same without rights and with them, and gives 24 only with them. A run gives no refusal, and so none gives 25.
-const OPERATIONS: [(&str, &[usize]); 22] = [
+const OPERATIONS: [(&str, &[usize]); 25] = [
     ("fresh", &[DONE, 1, 17]),
     ("name", &[DONE, 1, 2, 3, 4, 24]),
     ("become", &[DONE, 1, 2, 3, 5, 6, 24]),
@@ -26,6 +26,9 @@ const OPERATIONS: [(&str, &[usize]); 22] = [
     ("advise", &[BECOME, ABDICATE, FETCH, CLOSE_LAST, FINISH, CREATE, APPEND, WRITE, CLOSE_OWN, NONE, 1, 2, 3]),
     ("read ledger", &[DONE, 1, 2, 15]),
     ("read chain", &[DONE, 1, 2, 16]),
+    ("ledger at", &[DONE, 1, 2, 15]),
+    ("ledger sum", &[DONE, 1, 2, 15]),
+    ("run total", &[DONE, WIDE, 1, 2]),
     ("first window", &[FOUND, NONE, 1, 2, 20]),
     ("set mark", &[DONE, 1, 2, 21, 22]),
     ("drop mark", &[DONE, 1, 2, 23]),
@@ -53,7 +56,8 @@ const WHOLE: usize = DONE + 17;
 const CUT: usize = DONE + 18;
 const ADDS: usize = DONE + 19;
 const REFUSALS: usize = DONE + 20;
-const NAMES: [&str; 21] = [
+const WIDE: usize = DONE + 21;
+const NAMES: [&str; 22] = [
     "done",
     "was closed",
     "behind",
@@ -75,6 +79,7 @@ const NAMES: [&str; 21] = [
     "up to the budget",
     "adds",
     "only refusals",
+    "past 64 bits",
 ];
 
 /// The counts of one operation, by answer.
@@ -136,10 +141,13 @@ fn operation(call: Call) -> usize {
         Call::Advise(_) => 15,
         Call::ReadLedger(_) => 16,
         Call::ReadChain => 17,
-        Call::FirstWindow(..) => 18,
-        Call::SetMark(_) => 19,
-        Call::DropMark(_) => 20,
-        Call::ReadMark(_) => 21,
+        Call::LedgerAt(_) => 18,
+        Call::LedgerSum(_) => 19,
+        Call::RunTotal => 20,
+        Call::FirstWindow(..) => 21,
+        Call::SetMark(_) => 22,
+        Call::DropMark(_) => 23,
+        Call::ReadMark(_) => 24,
     }
 }
 
@@ -147,6 +155,8 @@ fn column(call: Call, outcome: &Outcome) -> usize {
     match (outcome, outcome.answer()) {
         (_, Some(Answer::Refused(number))) => number as usize,
         (Outcome::Window { found, .. }, Some(Answer::Done)) => [NONE, FOUND][(*found != 0) as usize],
+        // More ones than a number of 64 bits can have.
+        (Outcome::Total { ones: 18_446_745.., .. }, Some(Answer::Done)) => WIDE,
         (_, Some(Answer::Done)) => DONE,
         (_, Some(Answer::WasClosed)) => WAS_CLOSED,
         (_, Some(Answer::Behind)) => BEHIND,

@@ -631,6 +631,69 @@ fn makes_a_plan_short() {
     assert_eq!(plan.split(", ").count(), 2, "{report}");
 }
 
+// A list place is taken for the number of the ledger there, which shows only on logs with gaps.
+fn names_the_place(call: Call, lent: &mut Lent) -> Outcome {
+    match (call, call::model(call, lent)) {
+        (Call::LedgerAt(place), Outcome::Listed { answer: Answer::Done, .. }) => {
+            Outcome::Listed { answer: Answer::Done, ledger: place }
+        }
+        (_, outcome) => outcome,
+    }
+}
+
+// The place behind the last is answered.
+fn answers_a_place_too_many(call: Call, lent: &mut Lent) -> Outcome {
+    match (call, call::model(call, lent)) {
+        (Call::LedgerAt(place), Outcome::Listed { answer: Answer::Refused(15), .. })
+            if place == Head::load(lent.state[0]).0.list_length + 1 =>
+        {
+            Outcome::Listed { answer: Answer::Done, ledger: 0 }
+        }
+        (_, outcome) => outcome,
+    }
+}
+
+// Each ledger is rounded, and then they are added up.
+fn rounds_each_ledger(call: Call, lent: &mut Lent) -> Outcome {
+    match call::model(call, lent) {
+        Outcome::Total { answer: Answer::Done, ones, parts, .. } => {
+            let listed = (1..).map_while(|place| words::ledger_at(lent.state, lent.entries, place).ok());
+            let sums =
+                listed.map(|ledger| words::ledger_sum(lent.state, lent.entries, ledger).expect("it is listed").1);
+            let rounded = sums.map(|sum| sum / 1_000_000_000 + u64::from(sum % 1_000_000_000 >= 500_000_000)).sum();
+            Outcome::Total { answer: Answer::Done, ones, parts, rounded }
+        }
+        outcome => outcome,
+    }
+}
+
+// The total is kept in 64 bits, which shows only on words that no fresh log leads to.
+fn wraps_the_total(call: Call, lent: &mut Lent) -> Outcome {
+    match call::model(call, lent) {
+        Outcome::Total { answer: Answer::Done, ones, parts, rounded } => {
+            let total = ones.wrapping_mul(1_000_000_000_000).wrapping_add(parts);
+            let (ones, parts) = (total / 1_000_000_000_000, total % 1_000_000_000_000);
+            Outcome::Total { answer: Answer::Done, ones, parts, rounded }
+        }
+        outcome => outcome,
+    }
+}
+
+#[test]
+fn finds_wrong_totals() {
+    for compare in [histories::compare, buffers::compare] {
+        let report = first(compare, names_the_place, 500).expect("the fault is found");
+        assert!(report.contains("LedgerAt(") && report.contains("Listed { answer: Done, ledger: "), "{report}");
+        let report = first(compare, answers_a_place_too_many, 300).expect("the fault is found");
+        assert!(report.contains("the model Listed { answer: Refused(15), ledger: 0 }"), "{report}");
+        let report = first(compare, rounds_each_ledger, 500).expect("the fault is found");
+        assert!(report.contains("RunTotal: the library gives Total { answer: Done, "), "{report}");
+    }
+    assert_eq!(first(histories::compare, wraps_the_total, 100), None);
+    let report = first(buffers::compare, wraps_the_total, 500).expect("the fault is found");
+    assert!(report.contains("RunTotal: the library gives Total { answer: Done, "), "{report}");
+}
+
 // A log of 512 words says that it took a 513th entry.
 fn full_only_at_4096(call: Call, lent: &mut Lent) -> Outcome {
     match call::model(call, lent) {

@@ -2,7 +2,7 @@
 
 use crate::names;
 use cindrolf::{LedgerNumber, MarkName, client_of, value_of};
-use session::{exact, rounded};
+use session::{exact, total_lines};
 use std::fmt::Write;
 use store::{Error, Store};
 
@@ -22,13 +22,12 @@ pub fn chain(store: &mut Store, at: Option<MarkName>) -> Result<String, Error> {
 
 /// What the program of the run total prints.
 pub fn total(store: &mut Store) -> Result<String, Error> {
-    let (mut text, mut total) = (String::new(), 0);
-    for ledger in store.latest()?.sums()? {
-        let LedgerNumber(number) = ledger.ledger;
+    let (latest, mut text) = (store.latest()?, String::new());
+    for (LedgerNumber(number), ledger) in latest.sums()? {
         let _ = writeln!(text, "ledger {number} entries {} sum {}", ledger.entries, exact(ledger.sum));
-        total += ledger.sum;
     }
-    let _ = write!(text, "total {}\nrounded {}\n", exact(total), rounded(total));
+    let [total, rounded] = total_lines(latest.total()?);
+    let _ = write!(text, "{total}\n{rounded}\n");
     Ok(text)
 }
 

@@ -84,12 +84,12 @@ fn ledgers(latest: Latest<'_>) -> Result<String, Error> {
     let sums = latest.sums()?;
     let mut table =
         Table::new([("ledger", Side::Right), ("state", Side::Left), ("entries", Side::Right), ("sum", Side::Right)]);
-    for sum in &sums {
-        let state = view.ledger(sum.ledger).map_or("-", state);
-        table.add([sum.ledger.0.to_string(), state.into(), sum.entries.to_string(), exact(sum.sum)]);
+    for &(number, ledger) in &sums {
+        let state = view.ledger(number).map_or("-", state);
+        table.add([number.0.to_string(), state.into(), ledger.entries.to_string(), exact(ledger.sum)]);
     }
     let mut text = if sums.is_empty() { String::new() } else { format!("\n{}", table.text()) };
-    let listed = |number: &u64| sums.iter().any(|sum| sum.ledger.0 == *number);
+    let listed = |number: &u64| sums.iter().any(|(listed, _)| listed.0 == *number);
     let others: Vec<_> = (1..=created(latest)?).filter(|number| !listed(number)).collect();
     if !others.is_empty() {
         let numbers: Vec<_> = others.iter().map(u64::to_string).collect();

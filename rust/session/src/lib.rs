@@ -2,7 +2,7 @@
 //!
 //! The program itself is proved, and written in Rattle. This crate is for commands in Rust that take the same lines.
 
-use cindrolf::{Answer, Error, Step};
+use cindrolf::{Answer, Error, RunTotal, Step};
 use std::fmt;
 
 /// The most bytes that a session has.
@@ -114,13 +114,13 @@ pub fn reply(taken: Result<Answer, Error>) -> Result<String, Error> {
     }
 }
 
-/// A number of parts of 10^-12, with all its decimals.
-pub fn exact(parts: u128) -> String {
+/// A sum in parts of 10^-12, with all its decimals.
+pub fn exact(parts: u64) -> String {
     format!("{}.{:012}", parts / 1_000_000_000_000, parts % 1_000_000_000_000)
 }
 
-/// The same in thousandths, a half rounded up.
-pub fn rounded(parts: u128) -> String {
-    let thousandths = (parts + 500_000_000) / 1_000_000_000;
-    format!("{}.{:03}", thousandths / 1000, thousandths % 1000)
+/// The two lines of a run total, without their ends: the exact one and the rounded one.
+pub fn total_lines(total: RunTotal) -> [String; 2] {
+    let rounded = total.rounded;
+    [format!("total {total}"), format!("rounded {}.{:03}", rounded / 1000, rounded % 1000)]
 }

@@ -1,9 +1,9 @@
 //! Sessions taken by this crate on the proved log, beside what the model prints for them.
 
-use cindrolf::{LedgerNumber, Log, client_of, value_of};
+use cindrolf::{ListPlace, Log, client_of, value_of};
 use expected::files::{input, input_names, root};
 use model::random::Random;
-use session::{Session, exact, reply, rounded};
+use session::{Session, exact, reply, total_lines};
 use std::fmt::Write;
 
 /// What the session program and that of the run total print.
@@ -28,14 +28,13 @@ fn printed(input: &[u8]) -> (String, String) {
 }
 
 fn totals(log: &Log) -> String {
-    let (mut text, mut total) = (String::new(), 0);
-    for LedgerNumber(number) in log.view().list() {
-        let entries = log.read_ledger(LedgerNumber(number)).unwrap();
-        let sum = entries.iter().map(|&word| u128::from(value_of(word))).sum();
-        let _ = writeln!(text, "ledger {number} entries {} sum {}", entries.len(), exact(sum));
-        total += sum;
+    let mut text = String::new();
+    for ledger in (1..).map_while(|place| log.ledger_at(ListPlace(place)).ok()) {
+        let summed = log.ledger_sum(ledger).unwrap();
+        let _ = writeln!(text, "ledger {} entries {} sum {}", ledger.0, summed.entries, exact(summed.sum));
     }
-    text + &format!("total {}\nrounded {}\n", exact(total), rounded(total))
+    let [total, rounded] = total_lines(log.run_total().unwrap());
+    text + &format!("{total}\n{rounded}\n")
 }
 
 fn compare(input: &[u8]) {

@@ -2,22 +2,14 @@
 
 use crate::Error;
 use crate::copy::LogCopy;
-use cindrolf::{Forecast, LedgerNumber, LogRef, MarkName, Rights, StepWord, View, client_of, value_of};
+use cindrolf::{
+    Forecast, LedgerNumber, LedgerSum, ListPlace, LogRef, MarkName, Refusal, Rights, RunTotal, StepWord, View,
+    client_of,
+};
 
 /// The log as it was when it was last looked at: its words, marks and rights.
 #[derive(Clone, Copy)]
 pub struct Latest<'a>(&'a LogCopy);
-
-/// A listed ledger, and what its entries come to.
-#[derive(Clone, Copy, Debug, PartialEq, Eq)]
-pub struct LedgerSum {
-    /// Its number.
-    pub ledger: LedgerNumber,
-    /// How many entries it has.
-    pub entries: usize,
-    /// The sum of their values.
-    pub sum: u128,
-}
 
 impl<'a> Latest<'a> {
     pub(crate) fn new(copy: &'a LogCopy) -> Self {
@@ -52,21 +44,22 @@ impl<'a> Latest<'a> {
         Ok(self.chain()?.into_iter().filter(|&word| client_of(word) == client).count())
     }
 
-    /// The listed ledgers in their order, each with its sum.
-    pub fn sums(self) -> Result<Vec<LedgerSum>, Error> {
-        let view = self.view()?;
-        view.list().map(|ledger| self.sum(ledger)).collect()
+    /// The listed ledgers in their order, each with how many entries it has and the sum of their values.
+    pub fn sums(self) -> Result<Vec<(LedgerNumber, LedgerSum)>, Error> {
+        let (log, mut sums) = (self.log(), Vec::new());
+        for place in 1.. {
+            match log.ledger_at(ListPlace(place)) {
+                Ok(ledger) => sums.push((ledger, log.ledger_sum(ledger)?)),
+                Err(cindrolf::Error::Refused(Refusal::NotListed)) => break,
+                Err(error) => return Err(error.into()),
+            }
+        }
+        Ok(sums)
     }
 
-    fn sum(self, ledger: LedgerNumber) -> Result<LedgerSum, Error> {
-        let words = self.log().read_ledger(ledger)?;
-        let sum = words.iter().map(|&word| u128::from(value_of(word))).sum();
-        Ok(LedgerSum { ledger, entries: words.len(), sum })
-    }
-
-    /// The run total: the sum of all values along the chain.
-    pub fn total(self) -> Result<u128, Error> {
-        Ok(self.sums()?.iter().map(|ledger| ledger.sum).sum())
+    /// The run total: the sum of all values along the chain, exact and rounded once.
+    pub fn total(self) -> Result<RunTotal, Error> {
+        Ok(self.log().run_total()?)
     }
 
     /// The marks buffer, to read with [`LogRef::read_mark`].

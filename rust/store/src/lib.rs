@@ -30,7 +30,7 @@
 //! let _ = guest.append(1)?;
 //! assert_eq!(host.write(0, 202), Err(Error::Refused(Refusal::LedgerFenced)));
 //! assert_eq!(guest.write(1, 203)?.number, EntryNumber(1));
-//! assert_eq!(host.latest()?.total()?, 404);
+//! assert_eq!(host.latest()?.total()?.to_string(), "0.000000000404");
 //! assert_eq!(host.check()?, 13);
 //! # std::fs::remove_dir_all(&folder).unwrap();
 //! # Ok::<(), Error>(())
@@ -57,7 +57,7 @@ mod wait;
 
 pub use database::Fault;
 pub use error::{Error, Stored};
-pub use latest::{Latest, LedgerSum};
+pub use latest::Latest;
 pub use schema::APPLICATION_ID;
 pub use store::{PATIENCE, Store};
 

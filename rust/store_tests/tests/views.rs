@@ -106,7 +106,7 @@ fn expected(store: &mut Store) -> Vec<(&'static str, &'static str, Vec<String>)>
     let rights = (0..latest.view().unwrap().client_count()).flat_map(|client| {
         Right::ALL.map(|right| format!("{client} {}", u64::from(latest.rights().has(client, right))))
     });
-    let total = format!("{} {}", chain.len(), exact(latest.total().unwrap()));
+    let total = format!("{} {}", chain.len(), latest.total().unwrap());
     vec![
         ("entries", "entry, ledger, place, client, value", entries(latest)),
         ("chain", "position, client, value", along.collect()),

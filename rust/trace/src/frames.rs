@@ -2,8 +2,8 @@
 
 use crate::escape::visible;
 use crate::scene::{Change, Drawn, Scene};
-use cindrolf::{Answer, Error, LedgerNumber, Log, Refusal, Stage, Step, client_of, value_of};
-use session::{Line, NoSession, Session, exact, reply, rounded};
+use cindrolf::{Answer, Error, Log, Refusal, Stage, Step, client_of, value_of};
+use session::{Line, NoSession, Session, reply, total_lines};
 
 /// How a line went.
 #[derive(Clone, Copy, Debug, PartialEq, Eq)]
@@ -148,10 +148,6 @@ fn results(log: &Log) -> Result<[String; 3], Error> {
     let count = log.read_chain(&mut output)?;
     let chain: String =
         output[..count].iter().map(|&word| format!(" {}:{}", client_of(word), value_of(word))).collect();
-    let mut total = 0;
-    for LedgerNumber(number) in log.view().list() {
-        let entries = log.read_ledger(LedgerNumber(number))?;
-        total += entries.iter().map(|&word| u128::from(value_of(word))).sum::<u128>();
-    }
-    Ok([format!("chain{chain}"), format!("total {}", exact(total)), format!("rounded {}", rounded(total))])
+    let [total, rounded] = total_lines(log.run_total()?);
+    Ok([format!("chain{chain}"), total, rounded])
 }

@@ -2,7 +2,7 @@
 use native.Mathlib.Omega.{arith}
 use mathlib.Core.Path.{_∙_}
 use borrow.Author.Needs.{needs}
-use Rattle.sentences.specs.Read.{readReason, readColon}
+use Rattle.sentences.specs.Read.{readColon}
 use Rattle.sentences.specs.ReadLaws.{end-within, behind-not, behind-so}
 use Rattle.sentences.proofs.read.read_colon.Statement.{statement}
 use Rattle.sentences.proofs.read.read_colon.Tie as tie

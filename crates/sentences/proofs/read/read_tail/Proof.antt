@@ -2,7 +2,7 @@
 use native.Mathlib.Omega.{arith}
 use mathlib.Core.Path.{_∙_}
 use borrow.Author.Needs.{needs}
-use Rattle.sentences.specs.Read.{readClient, readTail}
+use Rattle.sentences.specs.Read.{readTail}
 use Rattle.sentences.specs.ReadLaws.{end-within, behind-not, behind-so}
 use Rattle.sentences.proofs.read.read_tail.Statement.{statement}
 use Rattle.sentences.proofs.read.read_tail.Tie as tie

@@ -1,82 +1,57 @@
 -- `put_ledgers` meets its contract.
-use Prim.Native.Nat.{_-_, _≤_}
+use Prim.Native.Nat.{_+_, _-_}
 use native.Mathlib.Omega.{arith}
+use mathlib.Core.Path.{sym, _∙_}
+use lib.ListN.{length}
 use borrow.Author.Needs.{needs}
 use Rattle.text.specs.Puts.{left-length}
-use Rattle.chain.specs.Operations.{buffers}
-use Rattle.total.specs.Listing.{Listing, list-few, listing-start, listing-room, summed, listing-turn, listing-end}
+use Rattle.chain.specs.Operations.{buffers, held}
+use Rattle.total.specs.Listing.{Listing, list-few, listing-start, within, listing-room, listing-turn, listing-end}
 use Rattle.total.proofs.ledgers.put_ledgers.Statement.{statement}
 use Rattle.total.proofs.ledgers.put_ledgers.Tie as tie
 
 abbrev Inv-loop : tie.InvT-loop
-Inv-loop state entries text₀ end at₀ total₀ i₀ text at total i =
-    (272 ≤ i) × (i ≤ end) × (end ≤ 527) × Listing (buffers state entries) text₀ i end text at total
+Inv-loop state entries text₀ at₀ place₀ text at place = Listing (buffers state entries) text₀ place text at
 
 abbrev μ-loop : tie.MeasureT-loop
-μ-loop state entries text₀ end at₀ total₀ i₀ text at total i = end - i
-
-load-head-requires : tie.Need-load-head-requires Inv-loop μ-loop
-load-head-requires c κs = search needs
-
-add-end : tie.Need-add-end Inv-loop μ-loop
-add-end c = omega (arith, list-few (c .before .before .before .before .args .state .now) _ (c .load-head .ensures))
+μ-loop state entries text₀ at₀ place₀ text at place = length (held (buffers state entries) .list) + 1 - place
 
 loop-holds : tie.Need-loop-holds Inv-loop μ-loop
-loop-holds c =
-    let head = c .load-head .ensures in
-    (omega arith, omega arith, omega (arith, list-few (c .before .before .before .before .args .state .now) _ head), listing-start _ _ _ head)
+loop-holds c = listing-start _ _
 
-mul-place-of : tie.Need-mul-place-of Inv-loop μ-loop
-mul-place-of c = search needs
+ledger-at-requires : tie.Need-ledger-at-requires Inv-loop μ-loop
+ledger-at-requires c κs = search needs
 
-shared-slice-read-place-of : tie.Need-shared-slice-read-place-of Inv-loop μ-loop
-shared-slice-read-place-of c = omega (arith, c .before .before .loop .inv .2, c .before .before .before .before .before .before .before .pre .0 .state)
+enum-told : tie.Need-enum-told Inv-loop μ-loop
+enum-told c = search needs
 
-place-of-requires : tie.Need-place-of-requires Inv-loop μ-loop
-place-of-requires c κs = search needs
+same-length : tie.Need-same-length Inv-loop μ-loop
+same-length c = left-length (c .before .before .before .loop .inv .left)
+
+returns : tie.Need-returns Inv-loop μ-loop
+returns c = listing-end (c .before .before .before .before .before .before .before .pre .0) (c .before .before .before .loop .inv) _ (sym (c .enum-told .given .1) ∙ c .before .before .ledger-at .ensures)
+
+enum-known-found : tie.Need-enum-known-found Inv-loop μ-loop
+enum-known-found c = search needs
 
 put-ledger-requires : tie.Need-put-ledger-requires Inv-loop μ-loop
 put-ledger-requires c κs =
-    let at-loop = c .before .before .before .before in
-    let log = at-loop .before .before .before .before .before .pre .0 in (
-      log .parts _,
-      listing-room _ _ _ _ _ _ _ (at-loop .loop .inv .3) (c .before .before .before .loop-test .taken) (omega (arith, at-loop .loop .inv .2, log .state)) _
-          (c .before .place-of .ensures) (at-loop .before .before .before .before .before .pre .1),
-    )
+    let pre = c .before .before .before .before .before .before .before .before .before .pre in
+    listing-room (pre .0) (c .before .before .before .before .before .loop .inv) _ (sym (c .before .before .found .given .1) ∙ c .before .before .before .before .ledger-at .ensures) (pre .1)
 
-add-total : tie.Need-add-total Inv-loop μ-loop
-add-total c =
-    let at-loop = c .before .before .before .before .before .before .before .before in
-    let log = at-loop .before .before .before .before .before .pre .0 in
-    omega (
-      arith,
-      summed _ _ _ _ _ _ _ (at-loop .loop .inv .3) (c .before .before .before .before .before .before .before .loop-test .taken) (omega (arith, at-loop .loop .inv .2, log .state)) _
-          (c .before .before .before .before .before .place-of .ensures) _ _ _ (c .before .before .before .put-ledger .ensures),
-      log .small,
-    )
-
-add-i : tie.Need-add-i Inv-loop μ-loop
-add-i c = omega arith
+add-place : tie.Need-add-place Inv-loop μ-loop
+add-place c =
+    let args = c .before .before .before .before .before .before .before .before .before .before .before .before .args in
+    omega (arith, c .before .before .before .before .before .before .before .before .loop .inv .few, list-few (buffers (args .state .now) (args .entries .now)))
 
 loop-less : tie.Need-loop-less Inv-loop μ-loop
-loop-less c = omega arith
+loop-less c =
+    let there = within (c .before .before .before .before .before .before .before .before .before .before .before .before .pre .0) (c .before .before .before .before .before .before .before .before .loop .inv) _ (sym (c .before .before .before .before .before .found .given .1) ∙ c .before .before .before .before .before .before .before .ledger-at .ensures) in
+    omega (arith, there)
 
 loop-again : tie.Need-loop-again Inv-loop μ-loop
 loop-again c =
-    let at-loop = c .before .before .before .before .before .before .before .before in
-    let inv = at-loop .loop .inv in (
-      omega (arith, inv .0),
-      omega (arith, c .before .before .before .before .before .before .before .loop-test .taken),
-      inv .2,
-      listing-turn _ _ _ _ _ _ _ (inv .3) (c .before .before .before .before .before .before .before .loop-test .taken) (omega (arith, inv .2, at-loop .before .before .before .before .before .pre .0 .state)) _
-          (c .before .before .before .before .before .place-of .ensures) _ _ _ (c .before .before .before .put-ledger .ensures),
-    )
-
-same-length : tie.Need-same-length Inv-loop μ-loop
-same-length c = left-length (c .before .loop .inv .3 .left)
-
-returns : tie.Need-returns Inv-loop μ-loop
-returns c = listing-end _ _ _ _ _ _ _ (c .before .loop .inv .3) (c .before .loop .inv .1) (c .loop-test .left)
+    listing-turn (c .before .before .before .before .before .before .before .before .before .before .before .before .pre .0) (c .before .before .before .before .before .before .before .before .loop .inv) _ (sym (c .before .before .before .before .before .found .given .1) ∙ c .before .before .before .before .before .before .before .ledger-at .ensures) (c .before .before .put-ledger .ensures)
 
 pub put-ledgers-spec : {M : Type 1} → statement M
 put-ledgers-spec =
@@ -84,16 +59,13 @@ put-ledgers-spec =
     (tie.spec
     Inv-loop
     μ-loop
-    load-head-requires
-    add-end
     loop-holds
-    mul-place-of
-    shared-slice-read-place-of
-    place-of-requires
-    put-ledger-requires
-    add-total
-    add-i
-    loop-less
-    loop-again
+    ledger-at-requires
+    enum-told
     same-length
-    returns)
+    returns
+    enum-known-found
+    put-ledger-requires
+    add-place
+    loop-less
+    loop-again)

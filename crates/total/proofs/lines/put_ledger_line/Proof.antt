@@ -19,19 +19,27 @@ put-counted-requires-2 : tie.Need-put-counted-requires-2
 unfolding ledgerLine
 put-counted-requires-2 c κs = room-first _ _ (room-next (c .before .before .before .before .put-counted .ensures) _ (c .before .before .before .before .before .before .before .before .pre))
 
-slice-aggregate-put-sum-line : tie.Need-slice-aggregate-put-sum-line
-slice-aggregate-put-sum-line c = search needs
+slice-aggregate-put-phrase : tie.Need-slice-aggregate-put-phrase
+slice-aggregate-put-phrase c = search needs
 
-put-sum-line-requires : tie.Need-put-sum-line-requires
+put-phrase-requires : tie.Need-put-phrase-requires
 unfolding ledgerLine
-put-sum-line-requires c κs = room-next (c .before .before .before .before .put-counted2 .ensures) _ (room-next (c .before .before .before .before .before .before .before .before .before .put-counted .ensures) _ (c .before .before .before .before .before .before .before .before .before .before .before .before .before .pre))
+put-phrase-requires c κs = room-first _ _ (room-next (c .before .before .before .before .put-counted2 .ensures) _ (room-next (c .before .before .before .before .before .before .before .before .before .put-counted .ensures) _ (c .before .before .before .before .before .before .before .before .before .before .before .before .before .pre)))
+
+put-exact-requires : tie.Need-put-exact-requires
+unfolding ledgerLine
+put-exact-requires c κs = room-first _ _ (room-next (c .before .before .before .put-phrase .ensures) _ (room-next (c .before .before .before .before .before .before .before .before .put-counted2 .ensures) _ (room-next (c .before .before .before .before .before .before .before .before .before .before .before .before .before .put-counted .ensures) _ (c .before .before .before .before .before .before .before .before .before .before .before .before .before .before .before .before .before .pre))))
+
+put-byte-requires : tie.Need-put-byte-requires
+unfolding ledgerLine
+put-byte-requires c κs = room-next (c .before .before .before .put-exact .ensures) _ (room-next (c .before .before .before .before .before .before .before .put-phrase .ensures) _ (room-next (c .before .before .before .before .before .before .before .before .before .before .before .before .put-counted2 .ensures) _ (room-next (c .before .before .before .before .before .before .before .before .before .before .before .before .before .before .before .before .before .put-counted .ensures) _ (c .before .before .before .before .before .before .before .before .before .before .before .before .before .before .before .before .before .before .before .before .before .pre))))
 
 same-length : tie.Need-same-length
 same-length c = search needs
 
 returns : tie.Need-returns
 unfolding ledgerLine
-returns c = puts-then (c .before .before .before .before .before .before .before .before .before .before .before .before .put-counted .ensures) (puts-then (c .before .before .before .before .before .before .before .put-counted2 .ensures) (c .before .before .put-sum-line .ensures))
+returns c = puts-then (c .before .before .before .before .before .before .before .before .before .before .before .before .before .before .before .before .before .before .before .before .put-counted .ensures) (puts-then (c .before .before .before .before .before .before .before .before .before .before .before .before .before .before .before .put-counted2 .ensures) (puts-then (c .before .before .before .before .before .before .before .before .before .before .put-phrase .ensures) (puts-then (c .before .before .before .before .before .before .put-exact .ensures) (c .before .before .put-byte .ensures))))
 
 pub put-ledger-line-spec : {M : Type 1} → statement M
 put-ledger-line-spec =
@@ -41,7 +49,9 @@ put-ledger-line-spec =
     put-counted-requires
     slice-aggregate-put-counted-2
     put-counted-requires-2
-    slice-aggregate-put-sum-line
-    put-sum-line-requires
+    slice-aggregate-put-phrase
+    put-phrase-requires
+    put-exact-requires
+    put-byte-requires
     same-length
     returns)

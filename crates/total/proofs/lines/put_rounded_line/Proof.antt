@@ -12,20 +12,20 @@ put-phrase-requires : tie.Need-put-phrase-requires
 unfolding roundedLine
 put-phrase-requires c κs = room-first _ _ (c .before .before .before .pre)
 
-put-rounded-requires : tie.Need-put-rounded-requires
+put-thousandths-requires : tie.Need-put-thousandths-requires
 unfolding roundedLine
-put-rounded-requires c κs = room-first _ _ (room-next (c .before .before .before .put-phrase .ensures) _ (c .before .before .before .before .before .before .before .pre))
+put-thousandths-requires c κs = room-first _ _ (room-next (c .before .before .before .put-phrase .ensures) _ (c .before .before .before .before .before .before .before .pre))
 
 put-byte-requires : tie.Need-put-byte-requires
 unfolding roundedLine
-put-byte-requires c κs = room-next (c .before .before .before .put-rounded .ensures) _ (room-next (c .before .before .before .before .before .before .before .put-phrase .ensures) _ (c .before .before .before .before .before .before .before .before .before .before .before .pre))
+put-byte-requires c κs = room-next (c .before .before .before .put-thousandths .ensures) _ (room-next (c .before .before .before .before .before .before .before .put-phrase .ensures) _ (c .before .before .before .before .before .before .before .before .before .before .before .pre))
 
 same-length : tie.Need-same-length
 same-length c = search needs
 
 returns : tie.Need-returns
 unfolding roundedLine
-returns c = puts-then (c .before .before .before .before .before .before .before .before .before .before .put-phrase .ensures) (puts-then (c .before .before .before .before .before .before .put-rounded .ensures) (c .before .before .put-byte .ensures))
+returns c = puts-then (c .before .before .before .before .before .before .before .before .before .before .put-phrase .ensures) (puts-then (c .before .before .before .before .before .before .put-thousandths .ensures) (c .before .before .put-byte .ensures))
 
 pub put-rounded-line-spec : {M : Type 1} → statement M
 put-rounded-line-spec =
@@ -33,7 +33,7 @@ put-rounded-line-spec =
     (tie.spec
     slice-aggregate-put-phrase
     put-phrase-requires
-    put-rounded-requires
+    put-thousandths-requires
     put-byte-requires
     same-length
     returns)

@@ -1,7 +1,7 @@
 -- `put_session` meets its contract.
 use mathlib.Core.Path.{refl, _∙_}
 use Rattle.requests.specs.Begins.{fresh-is}
-use Rattle.total.specs.Summed.{run-summable, run-room, run-puts}
+use Rattle.total.specs.Summed.{run-log, run-room, run-puts}
 use borrow.Author.Needs.{needs}
 use Rattle.rights.specs.All.{granted-all}
 use Rattle.total.proofs.start.put_session.Statement.{statement}
@@ -46,7 +46,7 @@ put-log-requires c κs =
     let begun = at-fresh .before .before .before .before .before .pre .0 in
     let is = fresh-is _ (begun .some) (begun .few) _ _ _ _ refl refl (at-fresh .fresh .ensures) in
     let ran = rw (c .before .before .before .before .before .before .before .before .before .before .grant-all .ensures ∙ granted-all _ refl) at (c .before .before .before .before .before .run-lines .ensures) in (
-      run-summable _ (begun .some) (begun .few) _ is ran,
+      run-log _ (begun .some) (begun .few) _ is ran,
       run-room _ (begun .some) (begun .few) _ is ran (at-fresh .before .before .before .before .before .pre .1),
     )
 

@@ -6,9 +6,9 @@ use lib.ListN.{length, drop}
 use borrow.Author.Needs.{needs}
 use Rattle.chain.specs.Values.{sumOf}
 use Rattle.chain.specs.Laws.Values.{sum-bound}
-use Rattle.total.specs.Sums.{sum-turn, sum-end}
-use Rattle.total.proofs.sums.sum_of.Statement.{statement}
-use Rattle.total.proofs.sums.sum_of.Tie as tie
+use Rattle.totals.specs.Sums.{sum-turn, sum-end}
+use Rattle.totals.proofs.sums.sum_of.Statement.{statement}
+use Rattle.totals.proofs.sums.sum_of.Tie as tie
 
 abbrev Inv-loop : tie.InvT-loop
 Inv-loop words sum₀ i₀ sum i = (i ≤ length words) × (sum + sumOf (drop i words) ≡ sumOf words)

@@ -1,0 +1,6 @@
+// Totals of a log: the sum of one ledger's values, and that of the whole run.
+pub mod answer;
+mod exact;
+pub mod ledger_sum;
+pub mod run_total;
+mod sums;
