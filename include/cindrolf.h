@@ -400,6 +400,51 @@ struct cindrolf_sentence_said {
  * refuses nothing and changes nothing. */
 struct cindrolf_sentence_said cindrolf_read_sentence(const char *text, size_t text_length);
 
+/* Sharing a log among controllers on many machines, through an engine that appends rows to one table: docs/SHARING.md says how. A controller
+ * is in a phase; what it sees next decides the phase that follows, and what it is to do. CINDROLF_PHASE_WAITING goes with the id of the
+ * append that is awaited. */
+#define CINDROLF_PHASE_IDLE UINT64_C(0)    /* it has nothing to do */
+#define CINDROLF_PHASE_ASKED UINT64_C(1)   /* it was asked for a request */
+#define CINDROLF_PHASE_CURRENT UINT64_C(2) /* it was asked, and has read the rows since */
+#define CINDROLF_PHASE_WAITING UINT64_C(3) /* it has sent an append, and has no answer to give yet */
+#define CINDROLF_PHASE_HALTED UINT64_C(4)  /* the engine has another history than it knows: it stops until it is started again */
+
+/* What is seen, with the numbers that go with it as `first` and `second`. Places count from 0. */
+#define CINDROLF_SEEN_ASKED UINT64_C(0)         /* somebody asks for a request */
+#define CINDROLF_SEEN_READ UINT64_C(1)          /* a read that began after the latest turn is over; now `first` rows are known, none awaited */
+#define CINDROLF_SEEN_NEXT UINT64_C(2)          /* a read has come to a row: `first` rows are known before it, and its id is `second` */
+#define CINDROLF_SEEN_PLACED UINT64_C(3)        /* the reply to the append: `first` rows are known, and the row is at place `second` */
+#define CINDROLF_SEEN_ACCEPTED UINT64_C(4)      /* the request is accepted on the copy; `first` is an id that no append ever had */
+#define CINDROLF_SEEN_REFUSED UINT64_C(5)       /* the request is refused on the copy, each of its steps */
+#define CINDROLF_SEEN_SILENCE UINT64_C(6)       /* no reply came */
+#define CINDROLF_SEEN_STOP UINT64_C(7)          /* the one who asked waits no longer */
+#define CINDROLF_SEEN_OTHER_HISTORY UINT64_C(8) /* the engine's rows are not those that are known */
+
+/* What is to be done. */
+#define CINDROLF_ACT_NOTHING UINT64_C(0)
+#define CINDROLF_ACT_READ UINT64_C(1)     /* read the rows after those known and take their steps on the copy; stop before the awaited row */
+#define CINDROLF_ACT_TRY UINT64_C(2)      /* take the request on the copy, and take it back */
+#define CINDROLF_ACT_APPEND UINT64_C(3)   /* send the append with the awaited id, the first time or again */
+#define CINDROLF_ACT_TELL UINT64_C(4)     /* take the request on the copy, for good, and give its answers */
+#define CINDROLF_ACT_REFUSE UINT64_C(5)   /* give the refusals */
+#define CINDROLF_ACT_WITHDRAW UINT64_C(6) /* say that the request was not taken, and never will be */
+#define CINDROLF_ACT_UNKNOWN UINT64_C(7)  /* say that it is unknown whether the request was or will be taken */
+
+/* The phase that follows, the awaited id, which is 0 in every phase but waiting, and what is to be done. */
+struct cindrolf_turn {
+    uint64_t phase;
+    uint64_t id;
+    uint64_t act;
+};
+
+/* What a controller does next. Every number is answered: that of no phase is taken as halted, in which nothing is done, and that of nothing
+ * seen as silence. The id counts only in phase waiting, `first` and `second` only where they are named above. It touches no memory. */
+struct cindrolf_turn cindrolf_decide(uint64_t phase, uint64_t id, uint64_t seen, uint64_t first, uint64_t second);
+
+/* The id of a request: start * 2^32 + count, by the number that the controller drew from the engine when it started, 1 to 2^32 - 1, and its
+ * count of requests since, from 0. Two requests with other numbers have other ids. 0, which is no id, where one of the two has no room. */
+uint64_t cindrolf_request_id(uint64_t start, uint64_t count);
+
 #ifdef __cplusplus
 }
 #endif

@@ -1,6 +1,7 @@
 /* The version of the library, null pointers with length 0, which every function takes for an empty buffer, an empty ledger that
  * its leader closes, the limits of lent scores, wide values, the numbers and places that writes answer, those of advised steps,
- * marks, rights, plans, words that are rearranged, refusals in words, and a log of 512 entry words. It compiles as C and as C++. */
+ * marks, rights, plans, words that are rearranged, refusals in words, the turns of a shared log, and a log of 512 entry words. It compiles
+ * as C and as C++. */
 #include "cindrolf.h"
 
 #include <inttypes.h>
@@ -1001,6 +1002,37 @@ static void check_small(void) {
     expect("the word that fresh leaves", entries[512], UINT64_C(0x0100000000000001));
 }
 
+#define ID UINT64_C(0x0000000300000009)
+
+/* One request from asking to telling, with a row of another before its own; a halt; and numbers that name nothing. */
+static const struct {
+    const char *what;
+    uint64_t phase, id, seen, first, second;
+    struct cindrolf_turn next;
+} turns[] = {
+    {"asked", CINDROLF_PHASE_IDLE, 0, CINDROLF_SEEN_ASKED, 0, 0, {CINDROLF_PHASE_ASKED, 0, CINDROLF_ACT_TRY}},
+    {"accepted", CINDROLF_PHASE_ASKED, 0, CINDROLF_SEEN_ACCEPTED, ID, 0, {CINDROLF_PHASE_WAITING, ID, CINDROLF_ACT_APPEND}},
+    {"placed", CINDROLF_PHASE_WAITING, ID, CINDROLF_SEEN_PLACED, 4, 5, {CINDROLF_PHASE_WAITING, ID, CINDROLF_ACT_READ}},
+    {"another's row", CINDROLF_PHASE_WAITING, ID, CINDROLF_SEEN_NEXT, 4, ID + 1, {CINDROLF_PHASE_WAITING, ID, CINDROLF_ACT_READ}},
+    {"its own row", CINDROLF_PHASE_WAITING, ID, CINDROLF_SEEN_NEXT, 5, ID, {CINDROLF_PHASE_IDLE, 0, CINDROLF_ACT_TELL}},
+    {"halt", CINDROLF_PHASE_WAITING, ID, CINDROLF_SEEN_OTHER_HISTORY, 0, 0, {CINDROLF_PHASE_HALTED, 0, CINDROLF_ACT_UNKNOWN}},
+    {"no phase", 5, ID, CINDROLF_SEEN_ASKED, 0, 0, {CINDROLF_PHASE_HALTED, 0, CINDROLF_ACT_WITHDRAW}},
+    {"nothing seen", CINDROLF_PHASE_CURRENT, 0, 9, ID, ID, {CINDROLF_PHASE_CURRENT, 0, CINDROLF_ACT_TRY}},
+};
+
+static void check_turns(void) {
+    for (size_t i = 0; i < sizeof turns / sizeof turns[0]; i++) {
+        struct cindrolf_turn turn = cindrolf_decide(turns[i].phase, turns[i].id, turns[i].seen, turns[i].first, turns[i].second);
+        expect(turns[i].what, turn.phase, turns[i].next.phase);
+        expect("the awaited id", turn.id, turns[i].next.id);
+        expect("what is to be done", turn.act, turns[i].next.act);
+    }
+    expect("an id", cindrolf_request_id(3, 9), ID);
+    expect("an id without a start", cindrolf_request_id(0, 9), 0);
+    expect("an id of a start that is too large", cindrolf_request_id(UINT64_C(1) << 32, 9), 0);
+    expect("an id of a count that is too large", cindrolf_request_id(3, UINT64_C(1) << 32), 0);
+}
+
 int main(void) {
     expect("version", cindrolf_version(), CINDROLF_VERSION);
 
@@ -1040,6 +1072,7 @@ int main(void) {
     check_rearranged();
     check_sentences();
     check_texts();
+    check_turns();
     check_small();
     check_greatest_total();
     return wrong;

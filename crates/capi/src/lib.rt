@@ -10,5 +10,6 @@ pub mod rearranged;
 pub mod sentence;
 pub mod step;
 pub mod total;
+pub mod turn;
 pub mod version;
 pub mod window;

@@ -243,6 +243,7 @@ mod plan;
 #[doc(hidden)]
 pub mod raw;
 mod rights;
+pub mod sharing;
 mod storage;
 mod total;
 mod version;

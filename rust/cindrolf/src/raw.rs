@@ -63,6 +63,13 @@ pub struct SentenceSaid {
     pub refusal: u64,
 }
 
+#[repr(C)]
+pub struct NextTurn {
+    pub phase: u64,
+    pub id: u64,
+    pub act: u64,
+}
+
 // Operations that change both buffers, each with the numbers that it takes.
 macro_rules! operations {
     ($($name:ident($($number:ident),*);)*) => {
@@ -124,6 +131,8 @@ steps_with! {
 
 unsafe extern "C" {
     pub fn cindrolf_version() -> u64;
+    pub fn cindrolf_decide(phase: u64, id: u64, seen: u64, first: u64, second: u64) -> NextTurn;
+    pub fn cindrolf_request_id(start: u64, count: u64) -> u64;
     pub fn cindrolf_write_scores(
         state: *mut u64,
         state_len: usize,

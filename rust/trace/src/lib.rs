@@ -5,11 +5,11 @@
 
 pub mod arguments;
 mod data;
-mod digest;
 pub mod escape;
 pub mod frames;
 pub mod output;
 pub mod page;
+mod policy;
 pub mod scene;
 pub mod svg;
 mod words;

@@ -1,9 +1,9 @@
 //! The page: all steps as a list, the parts that the script fills, and the picture for paper and for readers without scripts.
 
 use crate::data::data;
-use crate::digest::source;
 use crate::escape::markup;
 use crate::frames::{Frame, Frames, Outcome};
+use crate::policy::source;
 use crate::svg;
 use session::NoSession;
 

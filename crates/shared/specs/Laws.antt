@@ -1,0 +1,3 @@
+-- The proofs of what the theorems need.
+pub mod Replays
+pub mod Writes

@@ -1,0 +1,51 @@
+//! A single step of a request: a step of a client, or a change of marks or rights.
+
+use cindrolf::{MarkName, Step};
+
+/// A single step of a request.
+#[derive(Clone, Copy, Debug, PartialEq, Eq)]
+pub enum Change {
+    /// A client's step.
+    Step(u64, Step),
+    /// A client's write of the sum of the parts of these scores.
+    WriteScores(u64, &'static [u16]),
+    /// A mark is set.
+    SetMark(MarkName),
+    /// A mark is dropped.
+    DropMark(MarkName),
+    /// A client has these rights from now on.
+    SetRights(u64, u64),
+}
+
+impl Change {
+    /// The number of its kind in a row.
+    pub fn kind(self) -> u16 {
+        match self {
+            Change::Step(_, step) => step.number() as u16,
+            Change::WriteScores(..) => 10,
+            Change::SetMark(_) => 11,
+            Change::DropMark(_) => 12,
+            Change::SetRights(..) => 13,
+        }
+    }
+
+    /// Its client. A mark has none.
+    pub fn client(self) -> Option<u64> {
+        match self {
+            Change::Step(client, _) | Change::WriteScores(client, _) | Change::SetRights(client, _) => Some(client),
+            Change::SetMark(_) | Change::DropMark(_) => None,
+        }
+    }
+
+    /// Its input as a row has it: a number as eight bytes, scores as two each, a mark's name as it is, with the most
+    /// significant byte first.
+    pub fn input(self) -> Vec<u8> {
+        match self {
+            Change::Step(_, Step::Write(value)) => value.to_be_bytes().to_vec(),
+            Change::Step(..) => vec![],
+            Change::WriteScores(_, scores) => scores.iter().flat_map(|score| score.to_be_bytes()).collect(),
+            Change::SetMark(name) | Change::DropMark(name) => name.0.to_vec(),
+            Change::SetRights(_, word) => word.to_be_bytes().to_vec(),
+        }
+    }
+}

@@ -1,0 +1,72 @@
+//! What controllers are asked for: mostly what comes next for their client, and now and then anything.
+
+use crate::change::Change;
+use crate::replica::Replica;
+use cindrolf::{Advice, MarkName, Step};
+use model::lists;
+use model::random::Random;
+
+/// The most steps of a request.
+const MOST_STEPS: u64 = 6;
+
+/// The steps of a request of a client. A value that is written is `first` or a little more, so that no two are the same.
+pub fn wish(random: &mut Random, replica: &Replica, client: u64, clients: u64, first: u64) -> Vec<Change> {
+    let own = |step| vec![Change::Step(client, step)];
+    match random.below(100) {
+        0..55 => next(random, replica, client, first),
+        55..70 => own(Step::Name),
+        70..76 => lead(client),
+        76..80 => vec![Change::SetMark(mark(random)), Change::DropMark(mark(random))],
+        80..84 => vec![Change::SetMark(mark(random))],
+        84..90 => vec![Change::SetRights(random.below(clients + 1), rights(random))],
+        90..93 => vec![Change::WriteScores(client, lists::any_scores(random))],
+        _ => (0..random.between(1, MOST_STEPS)).map(|at| any(random, clients, first + at)).collect(),
+    }
+}
+
+/// What the adviser says, and writes where it says to write.
+fn next(random: &mut Random, replica: &Replica, client: u64, first: u64) -> Vec<Change> {
+    let step = match replica.log().advise(client) {
+        Ok(Some(Advice::Become)) => Step::Become,
+        Ok(Some(Advice::Abdicate)) => Step::Abdicate,
+        Ok(Some(Advice::Fetch)) => Step::Fetch,
+        Ok(Some(Advice::CloseLast)) => Step::CloseLast,
+        Ok(Some(Advice::Finish)) => Step::Finish,
+        Ok(Some(Advice::Create)) => Step::Create,
+        Ok(Some(Advice::Append)) => Step::Append,
+        Ok(Some(Advice::CloseOwn)) => Step::CloseOwn,
+        Ok(Some(Advice::Write)) => {
+            let count = random.between(1, MOST_STEPS);
+            return (0..count).map(|at| Change::Step(client, Step::Write(first + at))).collect();
+        }
+        Ok(None) | Err(_) => Step::Name,
+    };
+    vec![Change::Step(client, step)]
+}
+
+/// All that a new leader does until it may write.
+fn lead(client: u64) -> Vec<Change> {
+    [Step::Name, Step::Become, Step::Fetch, Step::CloseLast, Step::Finish, Step::Create, Step::Append]
+        .map(|step| Change::Step(client, step))
+        .to_vec()
+}
+
+fn any(random: &mut Random, clients: u64, value: u64) -> Change {
+    let client = random.below(clients + 1);
+    let step = Step::from_number(random.below(10), value).expect("a number below ten");
+    Change::Step(client, step)
+}
+
+fn mark(random: &mut Random) -> MarkName {
+    MarkName([random.pick(b"abc"), 0, 0, 0, 0, 0, 0, 0])
+}
+
+/// All rights, or all but one; or a bit that no client has.
+fn rights(random: &mut Random) -> u64 {
+    let ten = 0x3FF << 54;
+    match random.below(8) {
+        0 => ten | 1,
+        1..4 => ten & !(1 << (54 + random.below(10))),
+        _ => ten,
+    }
+}
