@@ -1,12 +1,18 @@
 //! The arguments: which command, on which file, with what.
 
 use crate::failure::Failure;
+use crate::steps::Manner;
 use crate::{marks, names};
 use cindrolf::{Capacity, MAX_CLIENTS, MarkName, Right};
 use std::ffi::{OsStr, OsString};
 use std::os::unix::ffi::{OsStrExt, OsStringExt};
 use std::path::PathBuf;
+use std::time::Duration;
 use std::vec::IntoIter;
+use store::{LastRow, PATIENCE};
+
+/// The longest that a step waits for a lock, in seconds: a day.
+const MOST_SECONDS: u64 = 86_400;
 
 /// The usage, which the command in the root folder prints as well.
 pub const USAGE: &str = include_str!("../usage.txt");
@@ -16,7 +22,7 @@ pub const USAGE: &str = include_str!("../usage.txt");
 pub enum Command {
     Help,
     Create { file: PathBuf, clients: u64, capacity: Capacity },
-    Step { file: PathBuf, lines: Vec<Vec<u8>>, explain: bool },
+    Step { file: PathBuf, lines: Vec<Vec<u8>>, manner: Manner },
     Show { file: PathBuf },
     Chain { file: PathBuf, at: Option<MarkName> },
     Total { file: PathBuf },
@@ -26,7 +32,7 @@ pub enum Command {
     DropMark { file: PathBuf, name: MarkName },
     Grant { file: PathBuf, client: u64, right: Right },
     Revoke { file: PathBuf, client: u64, right: Right },
-    Check { file: PathBuf },
+    Check { file: PathBuf, at: Option<LastRow> },
     Copy { file: PathBuf, to: PathBuf },
 }
 
@@ -58,30 +64,35 @@ fn synopsis(name: &str) -> Option<&'static str> {
         .find(|synopsis| synopsis.split_once(' ').is_some_and(|(known, rest)| known == name && rest.contains("FILE")))
 }
 
+/// The options of a command, each with what its value is, where it has one.
+fn options(name: &str) -> &'static [(&'static str, &'static str)] {
+    match name {
+        "create" => &[("--small", "")],
+        "step" => &[("--explain", ""), ("--wait", "a number of seconds")],
+        "chain" => &[("--at", "a name")],
+        "mark" => &[("--drop", "")],
+        "check" => &[("--at", "a row")],
+        _ => &[],
+    }
+}
+
 fn parse(name: &str, args: Vec<OsString>) -> Result<Command, String> {
-    let option = match name {
-        "create" => "--small",
-        "step" => "--explain",
-        "chain" => "--at",
-        "mark" => "--drop",
-        _ => "",
-    };
-    let mut words = Words::split(args, option)?;
+    let mut words = Words::split(args, options(name))?;
     let file = words.next("FILE")?.into();
     let command = match name {
         "create" => Command::Create { file, clients: words.clients()?, capacity: words.capacity() },
         "step" => {
-            let explain = words.option.is_some();
-            Command::Step { file, lines: words.rest(), explain }
+            let manner = words.manner()?;
+            Command::Step { file, lines: words.rest(), manner }
         }
         "show" => Command::Show { file },
-        "chain" => Command::Chain { file, at: words.option.take().map(|name| mark(&name)).transpose()? },
+        "chain" => Command::Chain { file, at: words.option("--at").map(|name| mark(&name)).transpose()? },
         "total" => Command::Total { file },
         "advise" => Command::Advise { file, client: words.client()? },
         "mark" => words.mark(file)?,
         "grant" => Command::Grant { file, client: words.client()?, right: words.right()? },
         "revoke" => Command::Revoke { file, client: words.client()?, right: words.right()? },
-        "check" => Command::Check { file },
+        "check" => Command::Check { file, at: words.option("--at").map(|row| last_row(&row)).transpose()? },
         _ => Command::Copy { file, to: words.next("TO")?.into() },
     };
     match words.words.next() {
@@ -90,30 +101,44 @@ fn parse(name: &str, args: Vec<OsString>) -> Result<Command, String> {
     }
 }
 
-/// The arguments of a command: its option, if it was given, with its value, and the others in their order.
+/// The arguments of a command: the options that were given, with their values, and the others in their order.
 struct Words {
-    option: Option<OsString>,
+    given: Vec<(&'static str, OsString)>,
     words: IntoIter<OsString>,
 }
 
 impl Words {
-    /// Options may stand anywhere in front of `--`. Only `--at` has a value.
-    fn split(args: Vec<OsString>, option: &str) -> Result<Self, String> {
-        let (mut given, mut words) = (None, Vec::new());
+    /// Options may stand anywhere in front of `--`. Of one that is given twice the last counts.
+    fn split(args: Vec<OsString>, options: &[(&'static str, &'static str)]) -> Result<Self, String> {
+        let (mut given, mut words) = (Vec::new(), Vec::new());
         let mut args = args.into_iter();
         while let Some(arg) = args.next() {
+            let option = options.iter().find(|(option, _)| arg == *option);
             if arg == "--" {
                 words.extend(args.by_ref());
-            } else if !option.is_empty() && arg == option {
-                let value = if option == "--at" { args.next().ok_or("--at wants a name after it")? } else { arg };
-                given = Some(value);
+            } else if let Some(&(option, value)) = option {
+                let wanted = || format!("{option} wants {value} after it");
+                given.push((option, if value.is_empty() { arg } else { args.next().ok_or_else(wanted)? }));
             } else if arg.len() > 1 && arg.as_bytes().starts_with(b"-") {
                 return Err(format!("there is no option {}", arg.display()));
             } else {
                 words.push(arg);
             }
         }
-        Ok(Words { option: given, words: words.into_iter() })
+        Ok(Words { given, words: words.into_iter() })
+    }
+
+    /// The value of an option, or its name where it has none, if it was given.
+    fn option(&self, name: &str) -> Option<OsString> {
+        self.given.iter().rfind(|(option, _)| *option == name).map(|(_, value)| value.clone())
+    }
+
+    fn manner(&self) -> Result<Manner, String> {
+        let explain = self.option("--explain").is_some();
+        let Some(text) = self.option("--wait") else { return Ok(Manner { explain, wait: PATIENCE }) };
+        let seconds = session::number(text.as_bytes(), MOST_SECONDS);
+        let seconds = seconds.ok_or(format!("SECONDS is 0 to {MOST_SECONDS}, not '{}'", text.display()))?;
+        Ok(Manner { explain, wait: Duration::from_secs(seconds) })
     }
 
     fn next(&mut self, what: &str) -> Result<OsString, String> {
@@ -125,7 +150,7 @@ impl Words {
     }
 
     fn capacity(&self) -> Capacity {
-        if self.option.is_some() { Capacity::Small } else { Capacity::Large }
+        if self.option("--small").is_some() { Capacity::Small } else { Capacity::Large }
     }
 
     fn clients(&mut self) -> Result<u64, String> {
@@ -147,7 +172,7 @@ impl Words {
 
     /// With a name it sets or drops that mark, else it lists them.
     fn mark(&mut self, file: PathBuf) -> Result<Command, String> {
-        match (self.words.next(), &self.option) {
+        match (self.words.next(), self.option("--drop")) {
             (Some(name), None) => Ok(Command::SetMark { file, name: mark(&name)? }),
             (Some(name), Some(_)) => Ok(Command::DropMark { file, name: mark(&name)? }),
             (None, None) => Ok(Command::Marks { file }),
@@ -158,6 +183,11 @@ impl Words {
 
 fn mark(name: &OsStr) -> Result<MarkName, String> {
     marks::name(name.as_bytes()).ok_or(format!("NAME has 1 to 8 bytes, and '{}' has {}", name.display(), name.len()))
+}
+
+fn last_row(text: &OsStr) -> Result<LastRow, String> {
+    let row = text.to_str().and_then(|text| text.parse().ok());
+    row.ok_or(format!("N:SUM is as show and check print it, not '{}'", text.display()))
 }
 
 #[cfg(test)]
@@ -179,6 +209,16 @@ mod tests {
         }
         assert_eq!(parsed("show -- --small"), Ok(Command::Show { file: "--small".into() }));
         assert_eq!(parsed("show -"), Ok(Command::Show { file: "-".into() }));
+        let manner = Manner { explain: true, wait: Duration::from_secs(7) };
+        for args in
+            ["step --explain --wait 7 f W", "step --wait 7 f W --explain", "step f --wait 5 W --wait 7 --explain"]
+        {
+            assert_eq!(
+                parsed(args),
+                Ok(Command::Step { file: "f".into(), lines: vec![b"W".to_vec()], manner }),
+                "{args}"
+            );
+        }
         assert_eq!(parsed("chain f --at -x"), Ok(Command::Chain { file: "f".into(), at: marks::name(b"-x") }));
     }
 

@@ -3,7 +3,7 @@
 use std::io;
 use std::path::{Path, PathBuf};
 use std::process::ExitCode;
-use store::Error;
+use store::{Error, LockHolder, lock_holder};
 
 /// Why a command was not done.
 pub enum Failure {
@@ -22,12 +22,13 @@ pub enum Failure {
 impl Failure {
     /// A log that could not be opened or read.
     pub fn of_reading(file: &Path, error: Error) -> Self {
+        let holder = holder(file, &error);
         let why = match error {
             // There was nothing to store.
             Error::Engine { fault, .. } => fault.to_string(),
             error => error.to_string(),
         };
-        Failure::File(file.into(), why)
+        Failure::File(file.into(), why + &holder)
     }
 
     /// A file that could not be made.
@@ -41,23 +42,24 @@ impl Failure {
 
     /// A change that gave no answer.
     pub fn of_change(file: &Path, error: Error) -> Self {
-        Failure::File(file.into(), error.to_string())
+        Failure::File(file.into(), error.to_string() + &holder(file, &error))
     }
 
     /// A line of steps that gave no answer, and whether its step is stored.
     pub fn of_line(file: &Path, number: u64, line: &str, error: Error) -> Self {
+        let holder = holder(file, &error);
         let why = match error {
             Error::Engine { .. } => error.to_string(),
             error => format!("not stored: {error}"),
         };
-        Failure::File(file.into(), format!("line {number}, {line}: {why}"))
+        Failure::File(file.into(), format!("line {number}, {line}: {why}{holder}"))
     }
 
     /// A copy that was not made, by the file that is at fault.
     pub fn of_copy(file: &Path, to: &Path, error: Error) -> Self {
         match error {
-            Error::Damaged(_) | Error::NoLog(_) => Self::of_reading(file, error),
-            error => Self::of_making(to, error),
+            Error::Exists | Error::File(_) => Self::of_making(to, error),
+            error => Self::of_reading(file, error),
         }
     }
 
@@ -76,4 +78,13 @@ impl Failure {
         }
         ExitCode::FAILURE
     }
+}
+
+/// Who holds the lock that was waited for, where it is known.
+fn holder(file: &Path, error: &Error) -> String {
+    let holder = if error.is_busy() { lock_holder(file) } else { None };
+    let Some(LockHolder { process, name, stopped }) = holder else { return String::new() };
+    let name = name.map_or(String::new(), |name| format!(" ({name})"));
+    let stopped = if stopped { " and is stopped: continue it or end it" } else { "" };
+    format!("; process {process}{name} holds it{stopped}")
 }

@@ -1,59 +1,102 @@
 //! Lines of steps from standard input, however long.
 
-use std::io::{BufRead, ErrorKind, Result};
+use crate::signals::Waited;
+use std::io::{BufRead, BufReader, ErrorKind, Read, Result};
 
 /// A longer line is no step: the longest, `W 255 18446744073709551615`, has 26 bytes.
 const MOST_BYTES: usize = 26;
 
-/// Reads lines one by one, and keeps of each no more than tells that it is none.
-pub struct Lines<R> {
-    input: R,
+/// What comes next.
+#[derive(Clone, Debug, PartialEq, Eq)]
+pub enum Next {
+    /// A line without its end. One that is too long, or lacks its end, is given as an empty line, which is as bad.
+    Line(Vec<u8>),
+    /// Nothing for now: there was time for something else.
+    Idle,
+    /// Nothing any more.
+    End,
 }
 
-impl<R: BufRead> Lines<R> {
+/// Reads lines one by one, and keeps of each no more than tells that it is none.
+pub struct Lines<R> {
+    input: BufReader<R>,
+    /// What is there of the next line.
+    line: Vec<u8>,
+    begun: bool,
+}
+
+impl<R: Read> Lines<R> {
     pub fn new(input: R) -> Self {
-        Lines { input }
+        Lines { input: BufReader::new(input), line: Vec::new(), begun: false }
     }
 
-    /// The next line without its end, as soon as that is there; none after the last. One that is too long, or lacks its
-    /// end, is given as an empty line, which is as bad.
-    pub fn next(&mut self) -> Result<Option<Vec<u8>>> {
-        let (mut line, mut begun) = (Vec::new(), false);
+    /// The next line, as soon as its end is there. `wait` is called before anything is read that may not be there yet.
+    pub fn next(&mut self, mut wait: impl FnMut() -> Result<Waited>) -> Result<Next> {
         loop {
+            if self.input.buffer().is_empty() {
+                match wait()? {
+                    Waited::Ready => {}
+                    Waited::Idle => return Ok(Next::Idle),
+                    Waited::Signal => return Ok(Next::End),
+                }
+            }
             let bytes = match self.input.fill_buf() {
                 Err(error) if error.kind() == ErrorKind::Interrupted => continue,
                 bytes => bytes?,
             };
             if bytes.is_empty() {
-                return Ok(begun.then(Vec::new));
+                let begun = std::mem::take(&mut self.begun);
+                return Ok(if begun { Next::Line(Vec::new()) } else { Next::End });
             }
-            begun = true;
+            self.begun = true;
             let end = bytes.iter().position(|&byte| byte == b'\n');
             let part = &bytes[..end.unwrap_or(bytes.len())];
-            let room = MOST_BYTES + 1 - line.len();
-            line.extend_from_slice(&part[..part.len().min(room)]);
+            let room = MOST_BYTES + 1 - self.line.len();
+            self.line.extend_from_slice(&part[..part.len().min(room)]);
             let used = end.map_or(bytes.len(), |end| end + 1);
             self.input.consume(used);
             if end.is_some() {
-                return Ok(Some(if line.len() > MOST_BYTES { Vec::new() } else { line }));
+                return Ok(Next::Line(self.whole()));
             }
         }
+    }
+
+    fn whole(&mut self) -> Vec<u8> {
+        self.begun = false;
+        let line = std::mem::take(&mut self.line);
+        if line.len() > MOST_BYTES { Vec::new() } else { line }
     }
 }
 
 #[cfg(test)]
 mod tests {
     use super::*;
-    use std::io::{BufReader, Read};
 
-    /// What a reader of so many bytes at a time makes of this text.
-    fn lines(text: &str, at_a_time: usize) -> Vec<String> {
-        let mut lines = Lines::new(BufReader::with_capacity(at_a_time, text.as_bytes()));
-        let mut all = Vec::new();
-        while let Some(line) = lines.next().unwrap() {
-            all.push(String::from_utf8(line).unwrap());
+    /// Gives so many bytes at a time.
+    struct Slow<'a>(&'a [u8], usize);
+
+    impl Read for Slow<'_> {
+        fn read(&mut self, room: &mut [u8]) -> Result<usize> {
+            let count = self.1.min(room.len());
+            self.0.read(&mut room[..count])
         }
-        all
+    }
+
+    /// What comes of this text, so many bytes at a time, with an idle moment between them.
+    fn lines(text: &str, at_a_time: usize) -> Vec<String> {
+        let mut lines = Lines::new(Slow(text.as_bytes(), at_a_time));
+        let (mut all, mut idle) = (Vec::new(), false);
+        loop {
+            let wait = || {
+                idle = !idle;
+                Ok(if idle { Waited::Idle } else { Waited::Ready })
+            };
+            match lines.next(wait).unwrap() {
+                Next::Line(line) => all.push(String::from_utf8(line).unwrap()),
+                Next::Idle => {}
+                Next::End => return all,
+            }
+        }
     }
 
     #[test]
@@ -71,10 +114,21 @@ mod tests {
     #[test]
     fn little_is_kept() {
         let input = std::io::repeat(b'W').take(10_000_000).chain(&b"\nB 0\n"[..]);
-        let mut lines = Lines::new(BufReader::new(input));
-        let line = lines.next().unwrap().unwrap();
+        let mut lines = Lines::new(input);
+        let mut next = || lines.next(|| Ok(Waited::Ready)).unwrap();
+        let Next::Line(line) = next() else { panic!("no line") };
         assert!(line.is_empty() && line.capacity() <= 64);
-        assert_eq!(lines.next().unwrap(), Some(b"B 0".to_vec()));
-        assert_eq!(lines.next().unwrap(), None);
+        assert_eq!(next(), Next::Line(b"B 0".to_vec()));
+        assert_eq!(next(), Next::End);
+    }
+
+    // A signal ends the input, and what was begun of a line is no line.
+    #[test]
+    fn a_signal() {
+        let mut lines = Lines::new(&b"B 0\nF 0"[..]);
+        let mut waits = [Waited::Ready, Waited::Signal].into_iter();
+        let mut next = || lines.next(|| Ok(waits.next().unwrap())).unwrap();
+        assert_eq!(next(), Next::Line(b"B 0".to_vec()));
+        assert_eq!(next(), Next::End);
     }
 }

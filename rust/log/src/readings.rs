@@ -1,4 +1,4 @@
-//! What is read of a log in a line or a few: the chain, the run total, the advice, the check.
+//! What is read of a log in a line or a few: the chain, the run total, the advice.
 
 use crate::names;
 use cindrolf::{LedgerNumber, MarkName, client_of, value_of};
@@ -40,13 +40,5 @@ pub fn advice(store: &mut Store, client: u64) -> Result<String, Error> {
             format!("{letter} {name}\n")
         }
         None => format!("none: client {} is named\n", latest.view()?.named_leader()),
-    })
-}
-
-/// That the file holds together, and how many rows its journal has.
-pub fn check(store: &mut Store) -> Result<String, Error> {
-    Ok(match store.check()? {
-        1 => "ok, 1 row\n".into(),
-        rows => format!("ok, {rows} rows\n"),
     })
 }

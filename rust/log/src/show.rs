@@ -31,6 +31,7 @@ fn summary(latest: Latest<'_>) -> Result<String, Error> {
     let _ = writeln!(text, "entries       {} of {}", view.entry_count(), view.capacity().words());
     let _ = writeln!(text, "ledgers       {created} of {MOST_LEDGERS} created, {} listed", view.list_length());
     let _ = writeln!(text, "named leader  client {}", view.named_leader());
+    let _ = writeln!(text, "last row      {}", latest.last_row());
     Ok(text)
 }
 

@@ -1,24 +1,42 @@
 //! Steps from lines, each answered when it is stored.
 
 use crate::failure::Failure;
-use crate::lines::Lines;
+use crate::lines::{Lines, Next};
+use crate::signals::Signals;
 use cindrolf::Step;
+use std::fs::File;
 use std::io::Write;
+use std::os::fd::AsFd;
 use std::path::Path;
-use store::{Error, Store};
+use std::time::Duration;
+use store::{Error, LastRow, Store};
 
-/// Takes the steps of these lines, or of standard input where there are none.
-pub fn take(file: &Path, lines: Vec<Vec<u8>>, explain: bool) -> Result<(), Failure> {
-    let mut stepper = Stepper { file, store: crate::open(file)?, explain, number: 0 };
-    if lines.is_empty() {
-        let mut input = Lines::new(std::io::stdin().lock());
-        while let Some(line) = input.next().map_err(Failure::Input)? {
-            stepper.line(&line)?;
-        }
+/// How long no line comes before the write-ahead log is copied back.
+const IDLE: Duration = Duration::from_secs(1);
+
+/// How steps are taken.
+#[derive(Clone, Copy, Debug, PartialEq, Eq)]
+pub struct Manner {
+    /// Whether a refusal is told in words too.
+    pub explain: bool,
+    /// How long a step waits for the lock of another process.
+    pub wait: Duration,
+}
+
+/// Takes the steps of these lines, or of standard input where there are none. A signal ends it after the present step.
+pub fn take(file: &Path, lines: &[Vec<u8>], manner: Manner) -> Result<(), Failure> {
+    let signals = Signals::catch().map_err(Failure::Input)?;
+    let mut store = crate::open(file)?;
+    store.set_patience(manner.wait);
+    let copied = store.last_row();
+    let mut stepper = Stepper { file, store, explain: manner.explain, number: 0, copied };
+    let taken = if lines.is_empty() { stepper.input(&signals) } else { stepper.lines(lines, &signals) };
+    if stepper.has_more() {
+        stepper.rest();
     }
-    for line in &lines {
-        stepper.line(line)?;
-    }
+    drop(stepper);
+    taken?;
+    signals.end();
     if lines.iter().any(|line| !line.contains(&b' ')) {
         eprintln!("log: a LINE is one argument: \"W 0 201\", and not W 0 201");
     }
@@ -31,9 +49,42 @@ struct Stepper<'a> {
     explain: bool,
     /// How many lines there were.
     number: u64,
+    /// The last row when the log was opened, or when it was last copied back from the write-ahead log.
+    copied: Option<LastRow>,
 }
 
 impl Stepper<'_> {
+    fn lines(&mut self, lines: &[Vec<u8>], signals: &Signals) -> Result<(), Failure> {
+        lines.iter().take_while(|_| !signals.came()).try_for_each(|line| self.line(line))
+    }
+
+    fn input(&mut self, signals: &Signals) -> Result<(), Failure> {
+        let input = File::from(std::io::stdin().as_fd().try_clone_to_owned().map_err(Failure::Input)?);
+        let file = input.try_clone().map_err(Failure::Input)?;
+        let mut lines = Lines::new(input);
+        while !signals.came() {
+            let time = self.has_more().then_some(IDLE);
+            match lines.next(|| signals.wait(file.as_fd(), time)).map_err(Failure::Input)? {
+                Next::Line(line) => self.line(&line)?,
+                Next::Idle => self.rest(),
+                Next::End => break,
+            }
+        }
+        Ok(())
+    }
+
+    /// Whether there are steps since the write-ahead log was copied back.
+    fn has_more(&self) -> bool {
+        self.store.last_row() != self.copied
+    }
+
+    /// Copies the write-ahead log back, so that the file holds every step by itself. Where that fails, the steps are as
+    /// well stored as before.
+    fn rest(&mut self) {
+        let _ = self.store.checkpoint();
+        self.copied = self.store.last_row();
+    }
+
     /// Takes the step of the next line, and prints its number and the reply.
     fn line(&mut self, line: &[u8]) -> Result<(), Failure> {
         self.number += 1;

@@ -35,12 +35,13 @@ clients       2
 entries       0 of 4096
 ledgers       0 of 255 created, 0 listed
 named leader  client 0
+last row      ROW
 
 client  named  leads  stage    ledger  entries  lacks rights
      0  yes    -      waiting       -        0  -
      1  -      -      waiting       -        0  -
 ";
-    assert_eq!(folder.output(&["show", "run.log"]), shown);
+    assert_eq!(folder.output(&["show", "run.log"]), shown.replace("ROW", &folder.last_row("run.log")));
 }
 
 #[test]
@@ -51,6 +52,7 @@ clients       3
 entries       2 of 512
 ledgers       1 of 255 created, 1 listed
 named leader  client 1
+last row      ROW
 
 client  named  leads  stage      ledger  entries  lacks rights
      0  -      yes    writing         1        2  -
@@ -60,7 +62,8 @@ client  named  leads  stage      ledger  entries  lacks rights
 ledger  state               entries             sum
      1  fenced, recovering        2  1.750000000000
 ";
-    assert_eq!(fenced().output(&["show", "run.log"]), shown);
+    let folder = fenced();
+    assert_eq!(folder.output(&["show", "run.log"]), shown.replace("ROW", &folder.last_row("run.log")));
 }
 
 #[test]
@@ -76,6 +79,7 @@ clients       3
 entries       3 of 512
 ledgers       3 of 255 created, 2 listed
 named leader  client 2
+last row      ROW
 
 client  named  leads  stage    ledger  entries  lacks rights
      0  -      yes    writing       1        2  N W
@@ -91,7 +95,7 @@ created and not listed: 2
 mark  entries
 wash        3
 ";
-    assert_eq!(folder.output(&["show", "run.log"]), shown);
+    assert_eq!(folder.output(&["show", "run.log"]), shown.replace("ROW", &folder.last_row("run.log")));
 }
 
 // Client 0 closes its own ledger 254 times, and has all 255 then.
@@ -170,22 +174,25 @@ fn rights() {
         }
         folder.quiet(&["grant", "run.log", "1", letter]);
     }
-    let unknown = folder.failure(1, &["grant", "run.log", "2", "N"]);
-    assert!(unknown.starts_with("log: run.log: ") && unknown.lines().count() == 1, "{unknown}");
+    // Refusal 3, as a step of such a client; 16 is no client of any log.
+    let unknown = "log: run.log: the client number is not below the client count (refusal 3)\n";
+    for (command, client) in [("grant", "2"), ("revoke", "2"), ("grant", "15"), ("revoke", "16"), ("grant", "255")] {
+        assert_eq!(folder.failure(1, &[command, "run.log", client, "N"]), unknown, "{command} {client}");
+    }
 }
 
 // Of the twenty steps of the race all are accepted, and each is a row.
 #[test]
 fn check_and_copy() {
     let folder = Folder::with_log(3);
-    assert_eq!(folder.output(&["check", "run.log"]), "ok, 0 rows\n");
+    assert_eq!(folder.checked("run.log"), "ok, 0 rows");
     folder.steps(&["B 0"]);
-    assert_eq!(folder.output(&["check", "run.log"]), "ok, 1 row\n");
+    assert_eq!(folder.checked("run.log"), "ok, 1 row");
     let folder = raced();
-    assert_eq!(folder.output(&["check", "run.log"]), "ok, 20 rows\n");
+    assert_eq!(folder.checked("run.log"), "ok, 20 rows");
     folder.quiet(&["copy", "run.log", "copy.log"]);
     folder.steps(&["W 2 10"]);
-    assert_eq!(folder.output(&["check", "copy.log"]), "ok, 20 rows\n");
+    assert_eq!(folder.checked("copy.log"), "ok, 20 rows");
     assert_eq!(folder.output(&["chain", "copy.log"]), "chain 0:1500000000000 0:250000000000 2:9\n");
     // A copy goes on as a log of its own.
     assert_eq!(folder.output(&["step", "copy.log", "W 2 11"]), "1 entry 3 place 1\n");

@@ -22,7 +22,11 @@ fn wrong_arguments() {
         (&["create", "new.log", "two"], "CLIENTS is 1 to 16, not 'two'", "usage: ./log create"),
         (&["create", "new.log", "2", "3"], "create does not take '3'", "usage: ./log create"),
         (&["create", "--large", "new.log", "2"], "there is no option --large", "usage: ./log create"),
-        (&["step", "--small", "run.log"], "there is no option --small", "usage: ./log step [--explain] FILE [LINE..]"),
+        (
+            &["step", "--small", "run.log"],
+            "there is no option --small",
+            "usage: ./log step [--explain] [--wait SECONDS] FILE [LINE..]",
+        ),
         (&["show", "run.log", "x"], "show does not take 'x'", "usage: ./log show FILE"),
         (&["chain", "run.log", "--at"], "--at wants a name after it", "usage: ./log chain [--at NAME] FILE"),
         (&["chain", "--at", "before the wash", "run.log"], "NAME has 1 to 8 bytes", "usage: ./log chain"),
@@ -41,7 +45,7 @@ fn wrong_arguments() {
         assert!(lines.next().unwrap().starts_with(&format!("log: {first}")), "{args:?}: {said}");
         assert!(lines.next().unwrap().starts_with(usage), "{args:?}: {said}");
     }
-    assert_eq!(folder.output(&["check", "run.log"]), "ok, 0 rows\n");
+    assert_eq!(folder.checked("run.log"), "ok, 0 rows");
     assert!(!folder.path("new.log").exists());
 }
 
@@ -104,12 +108,12 @@ fn two_creates() {
     folder.steps(&["B 0"]);
     let exists = "log: run.log: there is a file of this name already\n";
     assert_eq!(folder.failure(1, &["create", "run.log", "3"]), exists);
-    assert_eq!(folder.output(&["check", "run.log"]), "ok, 1 row\n");
+    assert_eq!(folder.checked("run.log"), "ok, 1 row");
     // Of several at once, one makes it.
     let children: Vec<_> = (0..8).map(|_| folder.program(&["create", "new.log", "2"]).spawn().unwrap()).collect();
     let ends: Vec<_> = children.into_iter().map(ended).collect();
     assert_eq!(ends.iter().filter(|end| end.status == Some(0)).count(), 1, "{ends:?}");
-    assert_eq!(folder.output(&["check", "new.log"]), "ok, 0 rows\n");
+    assert_eq!(folder.checked("new.log"), "ok, 0 rows");
 }
 
 // One digit of a value, in the only place of the file that has it.
@@ -129,7 +133,7 @@ fn a_damaged_file() {
         all_fail(&folder, "run.log", "the log is damaged: row 5 of its journal was changed");
         file.write_at(&[value[2]], place as u64).unwrap();
     }
-    assert_eq!(folder.output(&["check", "run.log"]), "ok, 5 rows\n");
+    assert_eq!(folder.checked("run.log"), "ok, 5 rows");
 }
 
 #[test]
@@ -182,5 +186,5 @@ fn a_full_disk() {
     assert!(stored.iter().copied().eq(0..stored.len() as u64), "{stored:?}");
     let more = usize::from(end.errors.starts_with(&unknown));
     assert!((answered..=answered + more).contains(&stored.len()), "{} of {answered}", stored.len());
-    assert!(folder.output(&["check", "run.log"]).starts_with("ok, "));
+    assert!(folder.checked("run.log").starts_with("ok, "));
 }

@@ -2,36 +2,9 @@
 
 mod support;
 
-use std::io::{BufRead, BufReader, Lines, Write};
-use std::process::{Child, ChildStdin, ChildStdout, Stdio};
-use support::{Folder, ended, values};
-
-/// A process that takes steps line by line.
-struct Stepper {
-    child: Child,
-    input: ChildStdin,
-    replies: Lines<BufReader<ChildStdout>>,
-}
-
-impl Stepper {
-    fn start(folder: &Folder) -> Self {
-        let mut child = folder.program(&["step", "run.log"]).stdin(Stdio::piped()).spawn().unwrap();
-        let (input, output) = (child.stdin.take().unwrap(), child.stdout.take().unwrap());
-        Stepper { child, input, replies: BufReader::new(output).lines() }
-    }
-
-    /// Gives it one line, and waits for the reply to it before there is another.
-    fn take(&mut self, line: &str) -> String {
-        writeln!(self.input, "{line}").unwrap();
-        self.replies.next().unwrap().unwrap()
-    }
-
-    fn end(self) {
-        drop(self.input);
-        let end = ended(self.child);
-        assert_eq!((end.status, end.errors.as_str()), (Some(0), ""));
-    }
-}
+use std::io::Write;
+use std::process::Stdio;
+use support::{Folder, Stepper, ended, values};
 
 // The handover of the README, by two processes that each see what the other has stored.
 #[test]
@@ -112,7 +85,7 @@ fn sixteen_at_once() {
     }
     let at: Option<Vec<u64>> = at.into_iter().collect();
     assert_eq!(Some(values(&folder.output(&["chain", "run.log"]))), at);
-    assert_eq!(folder.output(&["check", "run.log"]), format!("ok, {} rows\n", 4 + 16 * EACH));
+    assert_eq!(folder.checked("run.log"), format!("ok, {} rows", 4 + 16 * EACH));
 }
 
 // Whoever reads while another writes finds a prefix of what is written, no shorter than what was answered before.
@@ -131,9 +104,9 @@ fn readers_beside_a_writer() {
         folder.quiet(&["copy", "run.log", &copy]);
         let copied = values(&folder.output(&["chain", &copy]));
         assert!(copied.len() >= longest && copied.iter().copied().eq(0..copied.len() as u64));
-        assert_eq!(folder.output(&["check", &copy]), format!("ok, {} rows\n", 4 + copied.len()));
+        assert_eq!(folder.checked(&copy), format!("ok, {} rows", 4 + copied.len()));
         assert!(folder.output(&["show", "run.log"]).contains("named leader  client 0\n"));
-        assert!(folder.output(&["check", "run.log"]).starts_with("ok, "));
+        assert!(folder.checked("run.log").starts_with("ok, "));
     }
     feeder.join().unwrap();
     assert_eq!(ended(writer).status, Some(0));
@@ -165,5 +138,5 @@ fn a_killed_writer() {
         assert!(now == stored + answered || now == stored + answered + 1, "{now}, {stored} and {answered}");
         stored = now;
     }
-    assert_eq!(folder.output(&["check", "run.log"]), format!("ok, {} rows\n", 4 + stored));
+    assert_eq!(folder.checked("run.log"), format!("ok, {} rows", 4 + stored));
 }

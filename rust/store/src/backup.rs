@@ -1,47 +1,93 @@
 //! A copy of a log's file, made while others write.
 
-use crate::database::Value;
+use crate::database::{Fault, Value};
+use crate::file_name::{self, rename_new};
 use crate::{Error, Store};
+use std::fs::{File, OpenOptions, Permissions};
 use std::io::ErrorKind;
-use std::path::Path;
+use std::os::unix::ffi::OsStrExt;
+use std::os::unix::fs::{MetadataExt, OpenOptionsExt, PermissionsExt};
+use std::path::{Path, PathBuf};
 
 impl Store {
-    /// Writes the log as it is now to a new file, whole or not at all. Others may write meanwhile. It is made under the
-    /// name with the process's number and `.part` behind it, which stays where the process is killed.
+    /// Writes the log as it is now to a new file, whole or not at all, and on the disk when this returns. Others may
+    /// write meanwhile. It is made under the name with the process's number and `.part` after it, which stays where the
+    /// process is killed. The copy may be read and written by those who may read and write the log.
+    ///
+    /// [`Error::Exists`] and [`Error::File`] are of the copy; any other error is of the log.
     ///
     /// The copy is a single file, and can be read from a disk that cannot be written. It becomes a log that is written
     /// once a step is taken on it.
     pub fn copy_to(&mut self, to: impl AsRef<Path>) -> Result<(), Error> {
         let to = to.as_ref();
+        file_name::is_of_a_file(to)?;
         if to.symlink_metadata().is_ok() {
             return Err(Error::Exists);
         }
-        let mut part = to.as_os_str().to_owned();
-        part.push(format!(".{}.part", std::process::id()));
-        let part = Path::new(&part);
+        let mode = std::fs::metadata(self.path()).map_err(|_| Error::Replaced)?.mode() & 0o777;
+        let part = Part::create(to)?;
+        self.fill(&part.0)?;
+        part.finish(to, mode).map_err(of_the_copy)
+    }
+
+    /// Has SQLite write the copy to an empty file. It does not say which of the two files failed.
+    fn fill(&mut self, part: &Path) -> Result<(), Error> {
         let name = part.to_str().ok_or_else(|| Error::File("the name of the copy is no UTF-8".into()))?;
-        let made = self.guarded(|link| Ok(link.database.prepare("VACUUM INTO ?")?.execute(&[Value::Text(name)])?));
-        let made = made.and_then(|()| name_copy(part, to).map_err(|error| file(&error)));
-        let _ = std::fs::remove_file(part);
-        made?;
-        let folder = to.parent().filter(|folder| !folder.as_os_str().is_empty()).unwrap_or(Path::new("."));
-        std::fs::File::open(folder).and_then(|folder| folder.sync_all()).map_err(|error| file(&error))
+        let filled = self.guarded(|link| {
+            let filled = link.database.prepare("VACUUM INTO ?");
+            Ok::<Result<(), Fault>, Error>(filled.and_then(|mut fill| fill.execute(&[Value::Text(name)])))
+        })?;
+        let Err(fault) = filled else { return Ok(()) };
+        // A log that can be read to its end is not at fault.
+        self.check()?;
+        Err(Error::File(fault.to_string()))
     }
 }
 
-/// Gives the copy its name. A link, and no rename: it fails where another file has come in between.
-fn name_copy(part: &Path, to: &Path) -> std::io::Result<()> {
-    match std::fs::hard_link(part, to) {
-        Err(error) if error.kind() != ErrorKind::AlreadyExists => {
-            // A disk that knows no links, as FAT: an empty file holds the name for the rename.
-            std::fs::File::create_new(to)?;
-            std::fs::rename(part, to).inspect_err(|_| drop(std::fs::remove_file(to)))
+/// The file that becomes the copy. What has no other name goes with it.
+struct Part(PathBuf);
+
+impl Part {
+    /// Makes an empty file that nobody else may read, beside the copy's name.
+    fn create(to: &Path) -> Result<Part, Error> {
+        // SQLite would take a name that begins with `file:` for more than a name.
+        let here = Path::new(if to.as_os_str().as_bytes().starts_with(b"/") { "" } else { "." });
+        for number in 0.. {
+            let mut part = here.join(to).into_os_string();
+            let more = if number == 0 { String::new() } else { format!("-{number}") };
+            part.push(format!(".{}{more}.part", std::process::id()));
+            match OpenOptions::new().write(true).create_new(true).mode(0o600).open(&part) {
+                Ok(_) => return Ok(Part(part.into())),
+                // Another process of this number was killed and left it, here or in another container.
+                Err(error) if error.kind() == ErrorKind::AlreadyExists && number < 100 => {}
+                Err(error) => return Err(of_the_copy(error)),
+            }
         }
-        linked => linked,
+        unreachable!("some number is the last")
+    }
+
+    /// Has the copy reach the disk, and gives it its name and its mode.
+    fn finish(self, to: &Path, mode: u32) -> std::io::Result<()> {
+        let file = File::open(&self.0)?;
+        file.set_permissions(Permissions::from_mode(mode))?;
+        file.sync_all()?;
+        rename_new(&self.0, to)?;
+        let folder = to.parent().filter(|folder| !folder.as_os_str().is_empty()).unwrap_or(Path::new("."));
+        File::open(folder)?.sync_all()
     }
 }
 
-fn file(error: &std::io::Error) -> Error {
+impl Drop for Part {
+    fn drop(&mut self) {
+        let mut journal = self.0.clone().into_os_string();
+        journal.push("-journal");
+        for file in [self.0.as_os_str(), &journal] {
+            let _ = std::fs::remove_file(file);
+        }
+    }
+}
+
+fn of_the_copy(error: std::io::Error) -> Error {
     match error.kind() {
         ErrorKind::AlreadyExists => Error::Exists,
         _ => Error::File(error.to_string()),

@@ -14,8 +14,11 @@ impl Store {
         self.guarded(|link| {
             link.database.execute("BEGIN")?;
             let result = check(link);
-            link.database.execute("ROLLBACK")?;
-            result
+            // After an error of the disk SQLite has ended the transaction itself.
+            let ended = if link.database.in_transaction() { link.database.execute("ROLLBACK") } else { Ok(()) };
+            let rows = result?;
+            ended?;
+            Ok(rows)
         })
     }
 }
@@ -30,15 +33,7 @@ fn check(link: &Link) -> Result<i64, Error> {
         let next = copy.seq + 1;
         let (seq, record, checksum) = Record::load(row).ok_or_else(|| no_row(next))?;
         copy.follows(seq, &record, checksum)?;
-        match copy.replay(seq, &record) {
-            Ok(again) if again == record => {}
-            Ok(_) => return Err(Error::Damaged(format!("row {seq} of its journal is not what the log gives"))),
-            Err(Error::Refused(refusal)) => {
-                let why = format!("row {seq} of its journal is a step that the log refuses: {refusal}");
-                return Err(Error::Damaged(why));
-            }
-            Err(error) => return Err(error),
-        }
+        copy.again(seq, &record)?;
         (copy.seq, copy.checksum) = (seq, checksum);
         // What this process has followed is the same at the same row.
         if seq == link.copy.seq && copy != link.copy {

@@ -1,7 +1,7 @@
 //! The process's own copy of the log in the file, as of a row of the journal.
 
-use crate::Error;
 use crate::journal::{FIRST_CHECKSUM, Input, Kind, MOST_WORDS, Record, Word, of_step};
+use crate::{Error, MOST_ROWS};
 use cindrolf::{
     Answer, Capacity, Log, LogMut, LogRef, MARK_WORDS, MarkName, PermittedLog, Refusal, Rights, STATE_WORDS,
 };
@@ -114,14 +114,27 @@ impl LogCopy {
                     *self.word(at).ok_or_else(|| no_row(seq))? = word;
                 }
             }
-            _ => drop(self.replay(seq, record)?),
+            _ => self.again(seq, record)?,
         }
         (self.seq, self.checksum) = (seq, checksum);
         Ok(())
     }
 
-    /// Takes what a row of the journal records once more, by the library: the record that this gives.
-    pub fn replay(&mut self, seq: i64, record: &Record) -> Result<Record, Error> {
+    /// Takes what a row of the journal records once more, by the library, which has to give the same row. Where it refuses,
+    /// the row is wrong: that is no answer to the step that came upon it.
+    pub fn again(&mut self, seq: i64, record: &Record) -> Result<(), Error> {
+        match self.replay(seq, record) {
+            Ok(again) if again == *record => Ok(()),
+            Ok(_) => Err(Error::Damaged(format!("row {seq} of its journal is not what the log gives"))),
+            Err(Error::Refused(refusal)) => {
+                let why = format!("row {seq} of its journal is a step that the log refuses: {refusal}");
+                Err(Error::Damaged(why))
+            }
+            Err(error) => Err(error),
+        }
+    }
+
+    fn replay(&mut self, seq: i64, record: &Record) -> Result<Record, Error> {
         match (record.kind, record.client, &record.input) {
             (Kind::Step(_), Some(client), input) => {
                 let step = record.step().ok_or_else(|| no_row(seq))?;
@@ -143,6 +156,9 @@ impl LogCopy {
     pub fn follows(&self, seq: i64, record: &Record, checksum: u64) -> Result<(), Error> {
         if seq != self.seq + 1 {
             return Err(Error::Damaged(format!("row {} of its journal is missing", self.seq + 1)));
+        }
+        if seq > MOST_ROWS {
+            return Err(Error::Damaged(format!("its journal has more than {MOST_ROWS} rows")));
         }
         if record.checksum(self.checksum, seq) != checksum {
             return Err(Error::Damaged(format!("row {seq} of its journal was changed")));

@@ -2,8 +2,9 @@
 
 use crate::sqlite::{self, Sqlite3, Sqlite3Stmt};
 use crate::wait::Wait;
-use std::ffi::{CStr, CString, c_int, c_void};
-use std::path::Path;
+use std::ffi::{CStr, CString, OsStr, c_char, c_int, c_void};
+use std::os::unix::ffi::OsStrExt;
+use std::path::{Path, PathBuf};
 use std::ptr;
 use std::rc::Rc;
 use std::time::Duration;
@@ -31,30 +32,39 @@ pub enum Mode {
     Existing,
     /// It is made where it is not there.
     Create,
+    /// It has to be there, and is not changed.
+    ReadOnly,
 }
+
+/// The largest value in a log is a text of its schema. The scores of a read have at most 8,000 bytes.
+const MOST_BYTES: c_int = 65_536;
 
 /// The connection itself. Statements share it, so that it is closed after the last of them.
 struct Handle {
     connection: *mut Sqlite3,
     process: u32,
-    // SQLite has its address.
+    // SQLite has the addresses of both.
     wait: *mut Wait,
+    /// How many pages the write-ahead log had after this connection's last commit.
+    pages: *mut c_int,
 }
 
 impl Drop for Handle {
     fn drop(&mut self) {
         // A forked child must not close what is its parent's: that could take the parent's locks.
         if self.process == std::process::id() {
-            // SAFETY: the connection was opened, all its statements are finalized, and nobody uses it or `wait` afterwards.
+            // SAFETY: the connection was opened, all its statements are finalized, and nobody uses it, `wait` or `pages` afterwards.
             unsafe {
                 sqlite::sqlite3_close(self.connection);
                 drop(Box::from_raw(self.wait));
+                drop(Box::from_raw(self.pages));
             }
         }
     }
 }
 
 /// A connection to a file.
+#[derive(Clone)]
 pub struct Database(Rc<Handle>);
 
 /// A prepared statement.
@@ -95,7 +105,6 @@ impl Handle {
 impl Database {
     /// Opens a file. Its busy handler waits up to `patience` for a lock.
     pub fn open(path: &Path, mode: Mode, patience: Duration) -> Result<Self, Fault> {
-        use std::os::unix::ffi::OsStrExt;
         // A name that SQLite would take for something else is given as one in this folder.
         let mut name = path.as_os_str().as_bytes().to_vec();
         if !name.starts_with(b"/") {
@@ -106,6 +115,7 @@ impl Database {
         let flags = match mode {
             Mode::Existing => sqlite::OPEN_READWRITE,
             Mode::Create => sqlite::OPEN_READWRITE | sqlite::OPEN_CREATE,
+            Mode::ReadOnly => sqlite::OPEN_READONLY,
         };
         let mut connection = ptr::null_mut();
         // SAFETY: the name ends with a zero byte, and `connection` is set even where opening fails.
@@ -114,7 +124,8 @@ impl Database {
             return Err(Fault { code, message: "out of memory".into() });
         }
         let wait = Box::into_raw(Box::new(Wait::new(patience)));
-        let handle = Handle { connection, process: std::process::id(), wait };
+        let pages = Box::into_raw(Box::new(0));
+        let handle = Handle { connection, process: std::process::id(), wait, pages };
         handle.checked(code)?;
         // SAFETY: the connection is open; the handler gets `wait`, which lives as long as the handle.
         unsafe {
@@ -122,6 +133,86 @@ impl Database {
             handle.checked(sqlite::sqlite3_busy_handler(connection, Some(Wait::again), wait.cast()))?;
         }
         Ok(Database(Rc::new(handle)))
+    }
+
+    /// Opens a file of which nothing is trusted yet. Its triggers and views do not run and its values are no larger than
+    /// a log's. SQLite copies the write-ahead log to the file neither by itself nor on closing: it may do that while
+    /// another process begins the log again, and then loses what that one writes.
+    pub fn open_log(path: &Path, mode: Mode, patience: Duration) -> Result<Self, Fault> {
+        let database = Database::open(path, mode, patience)?;
+        database.set(sqlite::DBCONFIG_NO_CKPT_ON_CLOSE, true)?;
+        database.set(sqlite::DBCONFIG_DEFENSIVE, true)?;
+        database.set(sqlite::DBCONFIG_ENABLE_TRIGGER, false)?;
+        database.set(sqlite::DBCONFIG_ENABLE_VIEW, false)?;
+        // SAFETY: the connection is open; the hook gets `pages`, which lives as long as the handle.
+        unsafe {
+            sqlite::sqlite3_limit(database.0.connection, sqlite::LIMIT_LENGTH, MOST_BYTES);
+            sqlite::sqlite3_wal_hook(database.0.connection, Some(note_pages), database.0.pages.cast());
+        }
+        Ok(database)
+    }
+
+    fn set(&self, option: c_int, on: bool) -> Result<(), Fault> {
+        let none: *mut c_int = ptr::null_mut();
+        // SAFETY: the connection is open, and these options take a number and where to put the new one, or nothing.
+        self.0.checked(unsafe { sqlite::sqlite3_db_config(self.0.connection, option, c_int::from(on), none) })
+    }
+
+    /// Has SQLite copy the write-ahead log to the file on closing, and remove it, where this is the last connection of
+    /// all. SQLite then holds the file's exclusive lock, so that nobody else can write meanwhile.
+    pub fn copy_on_closing(&self) -> Result<(), Fault> {
+        self.set(sqlite::DBCONFIG_NO_CKPT_ON_CLOSE, false)
+    }
+
+    /// Copies the write-ahead log to the file as far as readers let it, and says whether that is all of it. The caller
+    /// holds the write lock by another connection.
+    pub fn copy_under_lock(&self) -> Result<bool, Fault> {
+        let (mut pages, mut copied) = (-1, -1);
+        // SAFETY: the connection is open, and both numbers live through the call.
+        let code = unsafe {
+            let passive = sqlite::CHECKPOINT_PASSIVE;
+            sqlite::sqlite3_wal_checkpoint_v2(self.0.connection, MAIN.as_ptr(), passive, &mut pages, &mut copied)
+        };
+        self.0.checked(code)?;
+        Ok(pages == copied)
+    }
+
+    /// How many pages the write-ahead log had after this connection's last commit.
+    pub fn pages(&self) -> c_int {
+        // SAFETY: `pages` lives as long as the handle, and SQLite uses it only within its own calls, of which none runs.
+        unsafe { *self.0.pages }
+    }
+
+    /// The file's whole name, without symbolic links.
+    pub fn file(&self) -> PathBuf {
+        // SAFETY: the connection is open; the name ends with a zero byte and stays as long as it.
+        path_of(unsafe { CStr::from_ptr(sqlite::sqlite3_db_filename(self.0.connection, MAIN.as_ptr())) })
+    }
+
+    /// The whole name of the write-ahead log beside it.
+    pub fn beside(&self) -> PathBuf {
+        // SAFETY: as above, and what has a file has the name of its write-ahead log.
+        path_of(unsafe {
+            let file = sqlite::sqlite3_db_filename(self.0.connection, MAIN.as_ptr());
+            CStr::from_ptr(sqlite::sqlite3_filename_wal(file))
+        })
+    }
+
+    /// Whether the file's name leads to another file than this connection has open, or to none.
+    pub fn moved(&self) -> Result<bool, Fault> {
+        let mut moved: c_int = 0;
+        let address = (&raw mut moved).cast();
+        // SAFETY: the connection is open, and this operation sets a number.
+        let code =
+            unsafe { sqlite::sqlite3_file_control(self.0.connection, MAIN.as_ptr(), sqlite::FCNTL_HAS_MOVED, address) };
+        self.0.checked(code)?;
+        Ok(moved != 0)
+    }
+
+    /// How many rows the last statement that inserts has inserted.
+    pub fn inserted(&self) -> c_int {
+        // SAFETY: the connection is open.
+        unsafe { sqlite::sqlite3_changes(self.0.connection) }
     }
 
     /// The statement in this text, which has one.
@@ -170,7 +261,31 @@ impl Database {
     }
 }
 
+/// The name of a connection's own file, as against those that are attached.
+const MAIN: &CStr = c"main";
+
+fn path_of(name: &CStr) -> PathBuf {
+    OsStr::from_bytes(name.to_bytes()).into()
+}
+
+/// SQLite's hook after a commit.
+///
+/// # Safety
+///
+/// `data` is the address of a number that nobody else uses meanwhile.
+unsafe extern "C" fn note_pages(data: *mut c_void, _: *mut Sqlite3, _: *const c_char, pages: c_int) -> c_int {
+    // SAFETY: by the contract.
+    unsafe { *data.cast::<c_int>() = pages };
+    sqlite::OK
+}
+
 impl Statement {
+    /// How often SQLite had to prepare it once more, since somebody had changed the schema.
+    pub fn prepared_again(&self) -> c_int {
+        // SAFETY: the statement is prepared.
+        unsafe { sqlite::sqlite3_stmt_status(self.statement, sqlite::STMTSTATUS_REPREPARE, 0) }
+    }
+
     /// Runs it to its end with these parameters.
     pub fn execute(&mut self, parameters: &[Value<'_>]) -> Result<(), Fault> {
         self.each(parameters, |_| Ok::<(), Fault>(()))

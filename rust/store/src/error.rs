@@ -28,6 +28,9 @@ pub enum Error {
     Exists,
     /// The file is of SQLite, and empty: its creation was begun and not finished. `create` finishes it.
     Unfinished,
+    /// No log can be kept in this file: it has a second name, or is on a network's disk, or the SQLite that is linked is
+    /// too old. This is which, and what to do.
+    Unfit(String),
     /// The file is no log, or one of another version. This is what it lacks.
     NoLog(String),
     /// The file is a log that does not hold together. This is where.
@@ -36,8 +39,10 @@ pub enum Error {
     JournalFull,
     /// The store was opened in another process, and this one is forked from that. It has to open the file itself.
     Forked,
-    /// The file was removed since it was opened, or another has its name. The store is to be opened anew.
+    /// The file was removed since it was opened, or another has its name. Open it with a store of its own.
     Replaced,
+    /// The store was opened to read only.
+    ReadOnly,
     /// A file could not be read or written. This is why.
     File(String),
     /// SQLite failed.
@@ -77,11 +82,17 @@ impl Error {
         matches!(self, Error::Engine { fault, .. } if full(fault))
     }
 
-    /// The same where a commit was tried: then nothing tells whether it came to pass.
-    pub(crate) fn at_commit(self) -> Self {
+    /// What SQLite answered to a commit: nothing tells whether that came to pass, whatever it says.
+    pub(crate) fn of_commit(fault: Fault) -> Self {
+        Error::Engine { stored: Stored::Unknown, fault }
+    }
+
+    /// Whether what the connection shows is not that of the file, so that nothing of it may be copied there.
+    pub(crate) fn is_of_other_files(&self) -> bool {
         match self {
-            Error::Engine { fault, .. } => Error::Engine { stored: Stored::Unknown, fault },
-            other => other,
+            Error::Engine { fault, .. } => fault.code == sqlite::IOERR_VNODE,
+            Error::Damaged(_) | Error::NoLog(_) | Error::Replaced | Error::Unfit(_) => true,
+            _ => false,
         }
     }
 }
@@ -91,6 +102,7 @@ impl From<Fault> for Error {
         match fault.primary() {
             sqlite::NOTADB => Error::NoLog("it is no file of SQLite".into()),
             sqlite::CORRUPT => Error::Damaged(format!("SQLite finds that {}", fault.message)),
+            sqlite::TOOBIG => Error::Damaged("one of its values is larger than any of a log".into()),
             _ => Error::Engine { stored: Stored::No, fault },
         }
     }
@@ -113,11 +125,13 @@ impl fmt::Display for Error {
             Error::Missing => f.write_str("there is no such file"),
             Error::Exists => f.write_str("there is a file of this name already"),
             Error::Unfinished => f.write_str("its creation was not finished; create it again"),
+            Error::Unfit(why) => write!(f, "no log can be kept there: {why}"),
             Error::NoLog(why) => write!(f, "it is no run log of this version: {why}"),
             Error::Damaged(why) => write!(f, "the log is damaged: {why}"),
             Error::JournalFull => write!(f, "the log has {} steps, the most that one takes", crate::MOST_ROWS),
-            Error::Forked => f.write_str("the log was opened before this process was forked; open it anew"),
+            Error::Forked => f.write_str("the log was opened before this process was forked; open it here as well"),
             Error::Replaced => f.write_str("the file was removed or replaced since it was opened"),
+            Error::ReadOnly => f.write_str("the log was opened to read only"),
             Error::File(why) => f.write_str(why),
             Error::Engine { stored, fault } => {
                 let stored = match stored {
@@ -134,6 +148,7 @@ impl fmt::Display for Error {
 impl fmt::Display for Fault {
     fn fmt(&self, f: &mut fmt::Formatter<'_>) -> fmt::Result {
         let told = match self.primary() {
+            _ if self.code == sqlite::IOERR_VNODE => &self.message,
             sqlite::BUSY => "another process held the log for longer than this one waits",
             sqlite::FULL => "the disk is full",
             sqlite::READONLY => "the file or its folder cannot be written",
@@ -145,4 +160,31 @@ impl fmt::Display for Fault {
     }
 }
 
-impl std::error::Error for Error {}
+impl std::error::Error for Error {
+    fn source(&self) -> Option<&(dyn std::error::Error + 'static)> {
+        match self {
+            Error::Refused(refusal) => Some(refusal),
+            Error::Library(error) => Some(error),
+            Error::Engine { fault, .. } => Some(fault),
+            _ => None,
+        }
+    }
+}
+
+impl std::error::Error for Fault {}
+
+#[cfg(test)]
+mod tests {
+    use super::*;
+
+    #[test]
+    fn every_error_of_a_commit_is_unknown() {
+        for code in [sqlite::BUSY, sqlite::CORRUPT, sqlite::NOTADB, sqlite::TOOBIG, sqlite::FULL, sqlite::IOERR_VNODE] {
+            let fault = Fault { code, message: "so".into() };
+            let error = Error::of_commit(fault.clone());
+            assert_eq!(error.stored(), Stored::Unknown, "{code}");
+            assert!(error.to_string().starts_with("it is not known whether the step is stored"), "{error}");
+            assert_eq!(Error::from(fault).stored(), Stored::No, "{code}");
+        }
+    }
+}

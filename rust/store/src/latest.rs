@@ -1,7 +1,7 @@
 //! The log as it was when it was last looked at, to read.
 
-use crate::Error;
 use crate::copy::LogCopy;
+use crate::{Error, LastRow};
 use cindrolf::{
     Forecast, LedgerNumber, LedgerSum, ListPlace, LogRef, MarkName, Refusal, Rights, RunTotal, StepWord, View,
     client_of,
@@ -29,6 +29,11 @@ impl<'a> Latest<'a> {
     /// How many rows the journal has: the steps that were accepted, and the changes of marks and rights.
     pub fn rows(self) -> i64 {
         self.0.seq
+    }
+
+    /// The last of them: what to keep, so that a lost tail is found by [`Store::has_row`](crate::Store::has_row).
+    pub fn last_row(self) -> LastRow {
+        LastRow { number: self.0.seq, checksum: self.0.checksum }
     }
 
     /// The chain reading: each entry with its client and its value, without its ledger.

@@ -32,6 +32,10 @@
 //! assert_eq!(guest.write(1, 203)?.number, EntryNumber(1));
 //! assert_eq!(host.latest()?.total()?.to_string(), "0.000000000404");
 //! assert_eq!(host.check()?, 13);
+//!
+//! // Who keeps the last row can see later that the log has not lost it, nor any row before it.
+//! let kept = host.last_row().expect("the row of what was answered last").to_string();
+//! guest.has_row(kept.parse().expect("what was printed"))?;
 //! # std::fs::remove_dir_all(&folder).unwrap();
 //! # Ok::<(), Error>(())
 //! ```
@@ -43,23 +47,35 @@
 //! any tool that reads one.
 
 mod backup;
+mod cause;
 mod check;
+mod checkpoint;
 mod copy;
 #[doc(hidden)]
 pub mod database;
+mod engine;
 mod error;
+mod file;
+mod file_name;
+mod holder;
 mod journal;
 mod latest;
+mod place;
+mod row;
 mod schema;
 mod sqlite;
 mod store;
+mod system;
 mod wait;
 
 pub use database::Fault;
 pub use error::{Error, Stored};
+pub use holder::{LockHolder, lock_holder};
 pub use latest::Latest;
+pub use row::{LastRow, NoLastRow};
 pub use schema::APPLICATION_ID;
 pub use store::{PATIENCE, Store};
+pub use wait::end_waiting;
 
 /// The most rows that a journal takes. A log that is filled with reads has some six thousand. Only steps that are taken
 /// over and over, such as naming one leader and then another, come near: a controller that does so without end is to be

@@ -3,7 +3,10 @@
 use crate::Error;
 use crate::copy::LogCopy;
 use crate::database::{Database, Value};
+use crate::sqlite;
 use cindrolf::Capacity;
+use std::thread::sleep;
+use std::time::Duration;
 
 /// SQLite's application id of a log's file: `Cind`.
 pub const APPLICATION_ID: i64 = 0x4369_6E64;
@@ -25,6 +28,16 @@ const OBJECTS: [(&str, &str); 14] = [
     ("rights", include_str!("sql/rights.sql")),
     ("total", include_str!("sql/total.sql")),
 ];
+
+/// The tables in which SQLite keeps what `ANALYZE` finds. They come and go, and nothing rests on them.
+const STATISTICS: [[&str; 4]; 2] = [
+    ["table", "sqlite_stat1", "sqlite_stat1", "CREATE TABLE sqlite_stat1(tbl,idx,stat)"],
+    ["table", "sqlite_stat4", "sqlite_stat4", "CREATE TABLE sqlite_stat4(tbl,idx,neq,nlt,ndlt,sample)"],
+];
+
+/// How often an empty file on which nobody holds a lock is looked at once more, after a millisecond: the process that
+/// creates it may be between two of its steps.
+const LOOKS: u32 = 300;
 
 /// Whether the file has nothing in it, as SQLite leaves one whose creation was not finished.
 pub fn is_empty(database: &Database) -> Result<bool, Error> {
@@ -50,11 +63,26 @@ pub fn create(database: &Database, fresh: &LogCopy, client_count: u64) -> Result
     Ok(())
 }
 
+/// Waits for a creation that is under way. An empty file that nobody works on was left by one that was not finished.
+pub fn finished(database: &Database) -> Result<(), Error> {
+    for _ in 0..LOOKS {
+        if !is_empty(database)? {
+            return Ok(());
+        }
+        // Each of the steps of a creation holds the lock. This waits for it.
+        match database.execute("BEGIN IMMEDIATE") {
+            Ok(()) => database.execute("ROLLBACK")?,
+            Err(fault) if fault.primary() == sqlite::BUSY => return Err(fault.into()),
+            // A file that this account cannot write may be created by another.
+            Err(_) => {}
+        }
+        sleep(Duration::from_millis(1));
+    }
+    Err(Error::Unfinished)
+}
+
 /// Sees that the file is a log's, of this version.
 pub fn identify(database: &Database) -> Result<(), Error> {
-    if is_empty(database)? {
-        return Err(Error::Unfinished);
-    }
     let id = database.number("PRAGMA application_id")?.unwrap_or(0);
     if id != APPLICATION_ID {
         return Err(Error::NoLog(format!("its application id is {id}, and not {APPLICATION_ID}")));
@@ -77,30 +105,29 @@ pub fn fresh(database: &Database) -> Result<LogCopy, Error> {
     let capacity = usize::try_from(words).ok().and_then(Capacity::from_words);
     let fresh = capacity.and_then(|capacity| LogCopy::fresh(clients as u64, capacity).ok());
     let fresh = fresh.ok_or_else(|| Error::Damaged(format!("no log has {clients} clients and {words} entry words")))?;
-    let mut kept = Vec::new();
+    let others = || Error::Damaged("its table fresh_words is not that of a fresh log".into());
+    let mut wanted = fresh.words();
     database.prepare("SELECT at, word FROM fresh_words ORDER BY at")?.each(&[], |row| {
-        if let (Value::Integer(at), Value::Integer(word)) = (row.value(0), row.value(1)) {
-            kept.push((at as usize, word as u64));
+        match (row.value(0), row.value(1), wanted.next()) {
+            (Value::Integer(at), Value::Integer(word), Some(next)) if (at as usize, word as u64) == next => Ok(()),
+            _ => Err(others()),
         }
-        Ok::<(), Error>(())
     })?;
-    if !fresh.words().eq(kept) {
-        return Err(Error::Damaged("its table fresh_words is not that of a fresh log".into()));
-    }
-    Ok(fresh)
+    if wanted.next().is_some() { Err(others()) } else { Ok(fresh.clone()) }
 }
 
 /// Sees that every table, trigger and view is as it was made, and that there is no other.
 pub fn verify(database: &Database) -> Result<(), Error> {
     let mut left: Vec<_> = OBJECTS.to_vec();
-    // SQLite's own tables come and go.
-    let mut objects = database
-        .prepare("SELECT type, name, tbl_name, sql FROM sqlite_schema WHERE name NOT LIKE 'sqlite\\_%' ESCAPE '\\'")?;
+    let mut objects = database.prepare("SELECT type, name, tbl_name, sql FROM sqlite_schema")?;
     objects.each(&[], |row| {
         let found = [0, 1, 2, 3].map(|column| match row.value(column) {
             Value::Text(text) => text,
             _ => "",
         });
+        if STATISTICS.contains(&found) {
+            return Ok(());
+        }
         let known = left.iter().position(|object| made(object) == found);
         let known = known.ok_or_else(|| Error::Damaged(format!("{} is not as it was made", found[1])))?;
         left.swap_remove(known);

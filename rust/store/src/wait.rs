@@ -1,6 +1,7 @@
 //! How a connection waits for the lock of another.
 
 use std::ffi::{c_int, c_void};
+use std::sync::atomic::{AtomicBool, Ordering};
 use std::thread::sleep;
 use std::time::{Duration, Instant};
 
@@ -8,6 +9,18 @@ use std::time::{Duration, Instant};
 const SHORTEST: Duration = Duration::from_micros(20);
 /// The longest one.
 const LONGEST: Duration = Duration::from_millis(1);
+
+/// How long a call still waits once the process is to end.
+const LAST: Duration = Duration::from_secs(1);
+
+/// Whether the process is to end.
+static ENDING: AtomicBool = AtomicBool::new(false);
+
+/// Has no call of this process wait longer than a second for the lock of another from now on, whatever its patience: the
+/// process is to end. A handler of signals may call it.
+pub fn end_waiting() {
+    ENDING.store(true, Ordering::Relaxed);
+}
 
 /// Tries again after a random time, until its patience is over. SQLite's own handler sleeps up to 100 ms at a time, so
 /// that with sixteen processes some got no write in a second.
@@ -39,11 +52,15 @@ impl Wait {
         let wait = unsafe { &mut *data.cast::<Wait>() };
         if calls == 0 {
             wait.since = Instant::now();
-        } else if wait.since.elapsed() >= wait.patience {
+        } else if wait.since.elapsed() >= wait.patience_now() {
             return 0;
         }
         sleep(wait.pause());
         1
+    }
+
+    fn patience_now(&self) -> Duration {
+        if ENDING.load(Ordering::Relaxed) { self.patience.min(LAST) } else { self.patience }
     }
 
     fn pause(&mut self) -> Duration {

@@ -1,6 +1,7 @@
 //! Holds the logs that killed processes left against what these had noted.
 
 use crate::notes::{Collected, sum};
+use crate::refusals;
 use crate::shared::{Shared, WordStore};
 use crate::worker::{Mode, capacity_of, log_count, log_file};
 use cindrolf::{LedgerNumber, LogRef, client_of, value_of};
@@ -21,6 +22,10 @@ pub struct Counts {
     pub besides: u64,
     /// Ledgers that hold what they held when they were closed.
     pub closed: u64,
+    /// Steps that were refused, each as the model does.
+    pub refused: u64,
+    /// The numbers of their refusals, each a bit.
+    pub refusals: u64,
 }
 
 struct Audit<'a> {
@@ -56,6 +61,9 @@ impl Audit<'_> {
             store => store.map_err(|error| error.to_string())?,
         };
         self.counts.steps += store.check().map_err(|error| error.to_string())?;
+        let refused: Vec<_> = self.notes.refused.iter().filter(|refused| refused.log == log).copied().collect();
+        self.counts.refusals |= refused.iter().fold(0, |bits, refused| bits | 1 << refused.refusal);
+        self.counts.refused += refusals::compare(&file, clients, capacity_of(log).words(), &refused)?;
         self.entries(log, store.latest().map_err(|error| error.to_string())?.log())
     }
 

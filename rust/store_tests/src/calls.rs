@@ -2,7 +2,9 @@
 //!
 //! SQLite finds these functions of the program before those of the C library. They do the same, unless told otherwise.
 
-use std::ffi::{c_int, c_long, c_void};
+use std::ffi::{CStr, OsStr, c_char, c_int, c_long, c_uint, c_void};
+use std::os::unix::ffi::OsStrExt;
+use std::path::PathBuf;
 use std::sync::Mutex;
 use std::sync::atomic::{AtomicBool, AtomicU64, Ordering};
 use std::time::Duration;
@@ -13,11 +15,16 @@ unsafe extern "C" {
 }
 
 const SYS_PWRITE64: c_long = 18;
+const SYS_FSYNC: c_long = 74;
 const SYS_FDATASYNC: c_long = 75;
 const SYS_FTRUNCATE: c_long = 77;
+const SYS_UNLINK: c_long = 87;
+const SYS_RENAMEAT2: c_long = 316;
 
 /// An error of the disk.
 pub const EIO: c_int = 5;
+/// The file system does not know how.
+pub const EINVAL: c_int = 22;
 /// No space is left on the disk.
 pub const ENOSPC: c_int = 28;
 
@@ -33,6 +40,74 @@ static SIZE_LIMIT: AtomicU64 = AtomicU64::new(0);
 static SYNC_DELAY: AtomicU64 = AtomicU64::new(0);
 /// Called before the first write after it was set.
 static BEFORE_WRITE: Mutex<Option<Box<dyn FnOnce() + Send>>> = Mutex::new(None);
+/// Whether there is no rename that fails where the new name is taken.
+static NO_RENAME: AtomicBool = AtomicBool::new(false);
+/// What was done to files since it was set.
+static TRACE: Mutex<Option<Vec<Done>>> = Mutex::new(None);
+
+/// What a call did to a file or a folder.
+#[derive(Clone, Debug, PartialEq, Eq)]
+pub struct Done {
+    /// Its name.
+    pub file: PathBuf,
+    /// What was done.
+    pub what: What,
+}
+
+/// What was done to a file.
+#[derive(Clone, Debug, PartialEq, Eq)]
+pub enum What {
+    /// These bytes were written at this offset.
+    Written(u64, Vec<u8>),
+    /// It was given this length.
+    Cut(u64),
+    /// All of it reached the disk.
+    Synced,
+    /// Its name was taken away.
+    Removed,
+    /// It was given this name in place of its own.
+    Renamed(PathBuf),
+}
+
+/// Notes what `work` has done to files. `work` gets a way to take what was done since it last asked.
+pub fn traced<T>(work: impl FnOnce(&dyn Fn() -> Vec<Done>) -> T) -> T {
+    let trace = || TRACE.lock().expect("nothing panics with it");
+    *trace() = Some(Vec::new());
+    let result = work(&|| trace().as_mut().map(std::mem::take).unwrap_or_default());
+    *trace() = None;
+    result
+}
+
+/// Notes what was done to an open file, where that is asked for.
+fn note(file: c_int, what: impl FnOnce() -> What) {
+    let name = || std::fs::read_link(format!("/proc/self/fd/{file}")).expect("an open file");
+    note_name(name, what);
+}
+
+/// Notes what was done to the file of a name.
+fn note_name(file: impl FnOnce() -> PathBuf, what: impl FnOnce() -> What) {
+    if let Some(trace) = TRACE.lock().expect("nothing panics with it").as_mut() {
+        trace.push(Done { file: file(), what: what() });
+    }
+}
+
+/// A name as the C library is given it.
+///
+/// # Safety
+///
+/// It ends with a zero byte.
+unsafe fn path(name: *const c_char) -> PathBuf {
+    // SAFETY: by the contract.
+    OsStr::from_bytes(unsafe { CStr::from_ptr(name) }.to_bytes()).into()
+}
+
+/// Has no rename fail where the new name is taken: there are file systems that know no such rename.
+pub fn without_rename<T>(work: impl FnOnce() -> T) -> T {
+    NO_RENAME.store(true, Ordering::SeqCst);
+    let result = work();
+    NO_RENAME.store(false, Ordering::SeqCst);
+    result
+}
 
 /// Counts the calls that `work` makes to write, to sync and to cut a file short.
 pub fn counted<T>(work: impl FnOnce() -> T) -> (T, u64) {
@@ -100,7 +175,13 @@ pub unsafe extern "C" fn pwrite64(file: c_int, bytes: *const c_void, count: usiz
         return failed(ENOSPC) as isize;
     }
     // SAFETY: by the contract.
-    unsafe { syscall(SYS_PWRITE64, file, bytes, count, offset) as isize }
+    let written = unsafe { syscall(SYS_PWRITE64, file, bytes, count, offset) as isize };
+    if let Ok(written) = usize::try_from(written) {
+        // SAFETY: so many bytes were just read from there.
+        let bytes = || unsafe { std::slice::from_raw_parts(bytes.cast(), written) };
+        note(file, || What::Written(offset as u64, bytes().to_vec()));
+    }
+    written
 }
 
 /// Has what was written reach the disk.
@@ -118,7 +199,26 @@ pub unsafe extern "C" fn fdatasync(file: c_int) -> c_int {
         std::thread::sleep(Duration::from_micros(delay));
     }
     // SAFETY: by the contract.
-    unsafe { syscall(SYS_FDATASYNC, file) as c_int }
+    let failed = unsafe { syscall(SYS_FDATASYNC, file) as c_int };
+    if failed == 0 {
+        note(file, || What::Synced);
+    }
+    failed
+}
+
+/// Has a file and all about it reach the disk, as the store's copies do.
+///
+/// # Safety
+///
+/// As the C library's.
+#[unsafe(no_mangle)]
+pub unsafe extern "C" fn fsync(file: c_int) -> c_int {
+    // SAFETY: by the contract.
+    let failed = unsafe { syscall(SYS_FSYNC, file) as c_int };
+    if failed == 0 {
+        note(file, || What::Synced);
+    }
+    failed
 }
 
 /// Cuts a file short, or lengthens it.
@@ -132,5 +232,50 @@ pub unsafe extern "C" fn ftruncate64(file: c_int, length: i64) -> c_int {
         return failed(EIO);
     }
     // SAFETY: by the contract.
-    unsafe { syscall(SYS_FTRUNCATE, file, length) as c_int }
+    let failed = unsafe { syscall(SYS_FTRUNCATE, file, length) as c_int };
+    if failed == 0 {
+        note(file, || What::Cut(length as u64));
+    }
+    failed
+}
+
+/// Takes a name away.
+///
+/// # Safety
+///
+/// As the C library's.
+#[unsafe(no_mangle)]
+pub unsafe extern "C" fn unlink(name: *const c_char) -> c_int {
+    // SAFETY: by the contract.
+    let failed = unsafe { syscall(SYS_UNLINK, name) as c_int };
+    if failed == 0 {
+        // SAFETY: by the contract.
+        note_name(|| unsafe { path(name) }, || What::Removed);
+    }
+    failed
+}
+
+/// Gives a file another name.
+///
+/// # Safety
+///
+/// As the C library's.
+#[unsafe(no_mangle)]
+pub unsafe extern "C" fn renameat2(
+    folder: c_int,
+    from: *const c_char,
+    other: c_int,
+    to: *const c_char,
+    flags: c_uint,
+) -> c_int {
+    if NO_RENAME.load(Ordering::SeqCst) {
+        return failed(EINVAL);
+    }
+    // SAFETY: by the contract.
+    let failed = unsafe { syscall(SYS_RENAMEAT2, folder, from, other, to, flags) as c_int };
+    if failed == 0 {
+        // SAFETY: by the contract.
+        note_name(|| unsafe { path(from) }, || What::Renamed(unsafe { path(to) }));
+    }
+    failed
 }

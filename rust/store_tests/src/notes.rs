@@ -26,13 +26,8 @@ pub enum Note {
         /// The entry number and the place in its ledger.
         at: Option<(u64, u64)>,
     },
-    /// The write was refused.
-    Refused {
-        /// The log.
-        log: u64,
-        /// The value.
-        value: u64,
-    },
+    /// A step was refused.
+    Refused(Refused),
     /// It closed this ledger, which then held so many entries with this sum over their words.
     Closed {
         /// The log.
@@ -44,6 +39,25 @@ pub enum Note {
         /// [`sum`] of their words.
         sum: u64,
     },
+}
+
+/// A step that was refused.
+#[derive(Clone, Copy, Debug, PartialEq, Eq)]
+pub struct Refused {
+    /// The log.
+    pub log: u64,
+    /// The client.
+    pub client: u64,
+    /// The step's number, 0 to 9.
+    pub step: u64,
+    /// The value of a write; 0 for another step.
+    pub value: u64,
+    /// The refusal's number.
+    pub refusal: u64,
+    /// The last row that any process was known to have been answered before this one asked.
+    pub known: i64,
+    /// The last row of which it was decided, as the store says.
+    pub row: i64,
 }
 
 /// A number that tells lists of words apart.
@@ -76,7 +90,9 @@ impl Notes {
                 format!("stored {log} {value} {entry} {place};\n")
             }
             Note::Stored { log, value, at: None } => format!("stored {log} {value};\n"),
-            Note::Refused { log, value } => format!("refused {log} {value};\n"),
+            Note::Refused(Refused { log, client, step, value, refusal, known, row }) => {
+                format!("refused {log} {client} {step} {value} {refusal} {known} {row};\n")
+            }
             Note::Closed { log, ledger, entries, sum } => format!("closed {log} {ledger} {entries} {sum};\n"),
         };
         self.0.write_all(line.as_bytes())
@@ -117,7 +133,10 @@ fn parse(line: &str) -> Option<Note> {
         ("asked", &[log, value]) => Some(Note::Asked { log, value }),
         ("stored", &[log, value, entry, place]) => Some(Note::Stored { log, value, at: Some((entry, place)) }),
         ("stored", &[log, value]) => Some(Note::Stored { log, value, at: None }),
-        ("refused", &[log, value]) => Some(Note::Refused { log, value }),
+        ("refused", &[log, client, step, value, refusal, known, row]) => {
+            let [known, row] = [known, row].map(|row| row as i64);
+            Some(Note::Refused(Refused { log, client, step, value, refusal, known, row }))
+        }
         ("closed", &[log, ledger, entries, sum]) => Some(Note::Closed { log, ledger, entries, sum }),
         _ => None,
     }
@@ -132,6 +151,8 @@ pub struct Collected {
     pub last: BTreeMap<u64, u64>,
     /// The ledgers that were closed: log, ledger, entries and sum.
     pub closed: Vec<(u64, u64, u64, u64)>,
+    /// The steps that were refused.
+    pub refused: Vec<Refused>,
 }
 
 impl Collected {
@@ -148,7 +169,10 @@ impl Collected {
                         all.stored.insert(value, (log, at));
                         open = None;
                     }
-                    Note::Refused { .. } => open = None,
+                    Note::Refused(refused) => {
+                        all.refused.push(refused);
+                        open = None;
+                    }
                     Note::Closed { log, ledger, entries, sum } => all.closed.push((log, ledger, entries, sum)),
                 }
             }

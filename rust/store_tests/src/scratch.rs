@@ -1,4 +1,4 @@
-//! A folder for the files of one test, removed at its end.
+//! A folder for the files of one test, removed at its end; and another account to use them from.
 
 use std::path::{Path, PathBuf};
 use std::sync::atomic::{AtomicU64, Ordering};
@@ -49,4 +49,20 @@ impl Drop for Scratch {
     fn drop(&mut self) {
         let _ = std::fs::remove_dir_all(&self.0);
     }
+}
+
+unsafe extern "C" {
+    fn syscall(number: i64, ...) -> i64;
+}
+
+/// Works as a user who is not root, so that the modes of files count. Only this thread changes.
+pub fn as_a_user<T>(work: impl FnOnce() -> T) -> T {
+    const SETRESUID: i64 = 117;
+    const NOBODY: i64 = 65_534;
+    // SAFETY: this sets the user of this thread. It fails where that is not root, whom modes bind anyway.
+    unsafe { syscall(SETRESUID, -1_i64, NOBODY, -1_i64) };
+    let result = work();
+    // SAFETY: as above.
+    unsafe { syscall(SETRESUID, -1_i64, 0_i64, -1_i64) };
+    result
 }

@@ -1,4 +1,4 @@
-//! A log in a file, as a process of the tests uses it: the store, and one that stores wrongly.
+//! A log in a file, as a process of the tests uses it: the store, and two that are wrong.
 
 use cindrolf::{Answer, Capacity, LogRef, PermittedLog, Rights, Step};
 use std::fs::File;
@@ -12,6 +12,8 @@ pub trait Shared {
     fn take(&mut self, client: u64, step: Step) -> Result<Answer, Error>;
     /// The log as it is now.
     fn log(&mut self) -> Result<LogRef<'_>, Error>;
+    /// After a step, the last row of which its answer or refusal was decided, with its own; none where there are no rows.
+    fn row(&self) -> Option<i64>;
 }
 
 impl Shared for Store {
@@ -21,6 +23,10 @@ impl Shared for Store {
 
     fn log(&mut self) -> Result<LogRef<'_>, Error> {
         Ok(self.latest()?.log())
+    }
+
+    fn row(&self) -> Option<i64> {
+        self.last_row().map(|row| row.number)
     }
 }
 
@@ -34,6 +40,65 @@ pub fn open_store(path: &Path, clients: u64, capacity: Capacity) -> Result<Store
             },
             other => return other,
         }
+    }
+}
+
+/// A wrong store: what it remembers of the log would refuse, it refuses without a look at the file.
+pub struct RememberingStore {
+    store: Store,
+    remembered: LogCopy,
+    row: Option<i64>,
+}
+
+/// The words of a log after a row.
+struct LogCopy {
+    state: Vec<u64>,
+    entries: Vec<u64>,
+    row: i64,
+}
+
+impl RememberingStore {
+    /// The same with a store that was just opened.
+    pub fn over(mut store: Store) -> Result<RememberingStore, Error> {
+        let remembered = LogCopy::of(&mut store)?;
+        Ok(RememberingStore { store, remembered, row: None })
+    }
+}
+
+impl LogCopy {
+    fn of(store: &mut Store) -> Result<LogCopy, Error> {
+        let latest = store.latest()?;
+        Ok(LogCopy {
+            state: latest.log().state().to_vec(),
+            entries: latest.log().entries().to_vec(),
+            row: latest.rows(),
+        })
+    }
+}
+
+impl Shared for RememberingStore {
+    fn take(&mut self, client: u64, step: Step) -> Result<Answer, Error> {
+        let LogCopy { state, entries, row } = &mut self.remembered;
+        let refused = cindrolf::LogMut::new(state, entries).take(client, step).err();
+        self.row = Some(*row);
+        let result = match refused {
+            Some(refused) => Err(refused.into()),
+            None => {
+                let result = self.store.take(client, step);
+                self.row = self.store.row();
+                result
+            }
+        };
+        self.remembered = LogCopy::of(&mut self.store)?;
+        result
+    }
+
+    fn log(&mut self) -> Result<LogRef<'_>, Error> {
+        self.store.log()
+    }
+
+    fn row(&self) -> Option<i64> {
+        self.row
     }
 }
 
@@ -116,5 +181,9 @@ impl Shared for WordStore {
         self.unlock();
         loaded?;
         Ok(LogRef::new(&self.state, &self.entries))
+    }
+
+    fn row(&self) -> Option<i64> {
+        None
     }
 }

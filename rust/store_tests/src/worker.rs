@@ -1,9 +1,10 @@
 //! A controller process that follows the protocol on logs that rotate, and notes what it was answered.
 
+use crate::answered::Answered;
 use crate::calls;
-use crate::notes::{self, Note, Notes, sum};
-use crate::shared::{Shared, WordStore, open_store};
-use cindrolf::{Answer, Capacity, LedgerNumber, Refusal, Stage, Step};
+use crate::notes::{self, Note, Notes, Refused, sum};
+use crate::shared::{RememberingStore, Shared, WordStore, open_store};
+use cindrolf::{Answer, Capacity, LedgerNumber, MAX_VALUE, Refusal, Stage, Step};
 use model::random::Random;
 use std::path::{Path, PathBuf};
 use std::time::Duration;
@@ -18,6 +19,8 @@ pub enum Mode {
     AnswersEarly,
     /// By a store that commits each word by itself: wrong.
     CommitsWords,
+    /// By a store that refuses what it remembers the log to refuse: wrong.
+    RefusesFromMemory,
 }
 
 impl Mode {
@@ -27,6 +30,7 @@ impl Mode {
             "sound" => Some(Mode::Sound),
             "answers-early" => Some(Mode::AnswersEarly),
             "commits-words" => Some(Mode::CommitsWords),
+            "refuses-from-memory" => Some(Mode::RefusesFromMemory),
             _ => None,
         }
     }
@@ -37,6 +41,7 @@ impl Mode {
             Mode::Sound => "sound",
             Mode::AnswersEarly => "answers-early",
             Mode::CommitsWords => "commits-words",
+            Mode::RefusesFromMemory => "refuses-from-memory",
         }
     }
 }
@@ -61,6 +66,7 @@ pub fn open(folder: &Path, log: u64, mode: Mode, clients: u64) -> Result<Box<dyn
     let (file, capacity) = (log_file(folder, log), capacity_of(log));
     Ok(match mode {
         Mode::CommitsWords => Box::new(WordStore::open(&file, clients, capacity)?),
+        Mode::RefusesFromMemory => Box::new(RememberingStore::over(open_store(&file, clients, capacity)?)?),
         _ => Box::new(open_store(&file, clients, capacity)?),
     })
 }
@@ -72,6 +78,7 @@ pub struct Worker {
     clients: u64,
     mode: Mode,
     notes: Notes,
+    answered: Answered,
     random: Random,
     log: u64,
     shared: Box<dyn Shared>,
@@ -92,11 +99,12 @@ impl Worker {
         let value = asked.max().unwrap_or(number << 48);
         let mut notes = Notes::open(folder, number).map_err(file)?;
         notes.add(Note::Started).map_err(file)?;
+        let answered = Answered::open(folder, number, clients).map_err(file)?;
         let log = log_count(folder).saturating_sub(1);
         let shared = open(folder, log, mode, clients)?;
         let folder = folder.to_path_buf();
         let random = Random::new(seed);
-        Ok(Worker { folder, number, clients, mode, notes, random, log, shared, value, fenced: false })
+        Ok(Worker { folder, number, clients, mode, notes, answered, random, log, shared, value, fenced: false })
     }
 
     /// Goes on until it is killed, or until something fails.
@@ -116,6 +124,10 @@ impl Worker {
         };
         let named = view.named_leader() == self.number;
         let me = view.client(self.number).expect("a client of the log");
+        let ledger = me.ledger.map(|ledger| ledger.number);
+        if self.random.below(40) == 0 {
+            return self.any_step(ledger);
+        }
         let step = match me.stage {
             Stage::Waiting if named => Step::Become,
             Stage::Waiting => return self.wait(),
@@ -129,25 +141,56 @@ impl Worker {
             // A stale leader goes on too, until the fence.
             Stage::Writing => return self.write(),
         };
-        let ledger = me.ledger.map(|ledger| ledger.number);
-        match self.shared.take(self.number, step) {
-            Ok(Answer::Done) if matches!(step, Step::Finish | Step::CloseOwn) => self.closed(ledger),
-            Ok(_) => Ok(()),
-            Err(Error::Refused(Refusal::NoLedgerNumber)) => self.rotate(),
-            Err(Error::Refused(_)) => Ok(()),
-            Err(error) => Err(error),
-        }?;
+        self.other_step(step, ledger)
+    }
+
+    /// Takes a step whose turn it may not be, so that every refusal is met.
+    fn any_step(&mut self, ledger: Option<LedgerNumber>) -> Result<(), Error> {
+        match self.random.below(13) {
+            8 => self.write(),
+            10 => self.take(self.number, Step::Write(MAX_VALUE + 1)).map(drop),
+            11 => self.take(self.clients, Step::Write(1)).map(drop),
+            12 => self.take(255, Step::Name).map(drop),
+            number => self.other_step(Step::from_number(number, 0).expect("one of ten"), ledger),
+        }
+    }
+
+    /// Takes a step that is no write.
+    fn other_step(&mut self, step: Step, ledger: Option<LedgerNumber>) -> Result<(), Error> {
+        match self.take(self.number, step)? {
+            Ok(Answer::Done) if matches!(step, Step::Finish | Step::CloseOwn) => self.closed(ledger)?,
+            Err(Refusal::NoLedgerNumber) => return self.rotate(),
+            _ => {}
+        }
         self.fenced &= step != Step::CloseOwn;
         Ok(())
+    }
+
+    /// Takes a step, and tells the others its row, or notes that it was refused.
+    fn take(&mut self, client: u64, step: Step) -> Result<Result<Answer, Refusal>, Error> {
+        let file = |error: std::io::Error| Error::File(error.to_string());
+        let (log, known) = (self.log, self.answered.known(self.log).map_err(file)?);
+        let result = self.shared.take(client, step);
+        let row = self.shared.row();
+        match result {
+            Ok(answer) => {
+                row.map_or(Ok(()), |row| self.answered.tell(log, row)).map_err(file)?;
+                Ok(Ok(answer))
+            }
+            Err(Error::Refused(refusal)) => {
+                let value = if let Step::Write(value) = step { value } else { 0 };
+                let (step, refused, row) = (step.number(), refusal.number(), row.unwrap_or(0));
+                self.note(Note::Refused(Refused { log, client, step, value, refusal: refused, known, row }))?;
+                Ok(Err(refusal))
+            }
+            Err(error) => Err(error),
+        }
     }
 
     /// A waiting client names itself now and then.
     fn wait(&mut self) -> Result<(), Error> {
         if self.random.below(400) == 0 {
-            return match self.shared.take(self.number, Step::Name) {
-                Ok(_) | Err(Error::Refused(_)) => Ok(()),
-                Err(error) => Err(error),
-            };
+            return self.take(self.number, Step::Name).map(drop);
         }
         std::thread::sleep(Duration::from_micros(self.random.between(200, 2_000)));
         // The others may have gone on to the next log.
@@ -168,27 +211,34 @@ impl Worker {
                 std::thread::sleep(Duration::from_micros(200));
             });
         }
-        let answer = self.shared.take(self.number, Step::Write(value));
+        let answer = self.take(self.number, Step::Write(value));
         calls::forget_before_write();
-        match answer {
+        match answer? {
             Ok(Answer::Stored(at)) => {
                 let at = Some((at.number.0, at.place.0));
+                // Who is killed now was answered, and could tell nobody.
+                if self.random.chance(10) {
+                    std::thread::sleep(Duration::from_micros(self.random.below(1_000)));
+                }
                 if self.mode == Mode::AnswersEarly { Ok(()) } else { self.note(Note::Stored { log, value, at }) }
             }
             Ok(other) => Err(Error::Damaged(format!("a write was answered {other}"))),
-            Err(Error::Refused(refusal)) => {
-                self.note(Note::Refused { log, value })?;
+            Err(refusal) => {
                 self.fenced = refusal == Refusal::LedgerFenced;
                 if refusal == Refusal::LogFull { self.rotate() } else { Ok(()) }
             }
-            Err(error) => Err(error),
         }
     }
 
     /// Notes what a ledger holds that it has just closed.
     fn closed(&mut self, ledger: Option<LedgerNumber>) -> Result<(), Error> {
         let Some(ledger) = ledger else { return Ok(()) };
-        let words = self.shared.log()?.read_ledger(ledger)?;
+        let log = self.shared.log()?;
+        if !log.well_formed() {
+            // As above.
+            return self.rotate();
+        }
+        let words = log.read_ledger(ledger)?;
         let (entries, sum) = (words.len() as u64, sum(words));
         self.note(Note::Closed { log: self.log, ledger: ledger.0, entries, sum })
     }

@@ -56,6 +56,7 @@ fn each_call(change: &Change, more: &[(u64, Step)]) -> u64 {
         for found in [&left, &now] {
             assert!(*found == before || *found == after, "{name}: half of it is stored");
         }
+        assert!(left == now, "{name}: where all processes are killed now, another log is left than who looks is shown");
         match made {
             Ok(()) => assert!(left == after && now == after, "{name}: acknowledged, and not there"),
             Err(error) if error.stored() == Stored::No => assert!(left == before && now == before, "{name}: {error}"),

@@ -6,8 +6,9 @@ use std::fs;
 use std::path::Path;
 use store::database::{Database, Mode, Value};
 use store::{Error, PATIENCE, Store, Stored};
+use store_tests::forged::checksum;
 use store_tests::kinds::{changes, prepared};
-use store_tests::scratch::Scratch;
+use store_tests::scratch::{Scratch, as_a_user};
 
 /// A log with every kind of row, in one file.
 fn all_kinds(file: &Path) -> i64 {
@@ -153,12 +154,6 @@ fn rows_that_do_not_hold_together() {
     assert!(database.execute("DELETE FROM journal").is_err());
 }
 
-/// The checksum of a row as docs/REFERENCE.md defines it.
-fn checksum(before: u64, columns: &[Option<u64>]) -> u64 {
-    let add = |sum: u64, column: &Option<u64>| (sum ^ column.unwrap_or(u64::MAX)).wrapping_mul(0x100_0000_01B3);
-    columns.iter().fold(before, add)
-}
-
 // Rows whose checksums are right: words that are no log, and a step that would not leave these words.
 #[test]
 fn rows_that_nobody_stored() {
@@ -285,22 +280,6 @@ fn a_leftover_write_ahead_log() {
     store.check().unwrap();
 }
 
-unsafe extern "C" {
-    fn syscall(number: i64, ...) -> i64;
-}
-
-/// Works as a user who is not root, so that the modes of files count. Only this thread changes.
-fn as_a_user<T>(work: impl FnOnce() -> T) -> T {
-    const SETRESUID: i64 = 117;
-    const NOBODY: i64 = 65_534;
-    // SAFETY: this sets the user of this thread. It fails where that is not root, whom modes bind anyway.
-    unsafe { syscall(SETRESUID, -1_i64, NOBODY, -1_i64) };
-    let result = work();
-    // SAFETY: as above.
-    unsafe { syscall(SETRESUID, -1_i64, 0_i64, -1_i64) };
-    result
-}
-
 fn mode(path: &Path, mode: u32) {
     use std::os::unix::fs::PermissionsExt;
     fs::set_permissions(path, fs::Permissions::from_mode(mode)).unwrap();
@@ -332,7 +311,7 @@ fn a_read_only_folder() {
     Store::open(&file).unwrap().copy_to(&copy).unwrap();
     mode(room.folder(), 0o555);
     as_a_user(|| {
-        let error = Store::open(&file).err().expect("no folder to write in");
+        let error = Store::open(&file).expect_err("no folder to write in");
         assert!(error.to_string().contains("the file or its folder cannot be written"), "{error}");
         let mut store = Store::open(&copy).unwrap();
         assert_eq!(store.check(), Ok(rows));

@@ -2,7 +2,9 @@
 
 use cindrolf::{Capacity, Step, StepWord};
 use std::time::Instant;
+use store::database::Value;
 use store::{Error, MOST_ROWS, Store};
+use store_tests::forged;
 use store_tests::scratch::Scratch;
 
 #[test]
@@ -29,6 +31,13 @@ fn a_full_journal() {
         size / 1_000_000,
         began.elapsed() - opened
     );
+    drop(store);
+    // A row more, with its right checksum: naming client 1.
+    forged::add(&file, 0, Some(1), Value::Null, &[None]).unwrap();
+    match Store::open(&file).err() {
+        Some(Error::Damaged(why)) => assert!(why.contains("more than 1000000 rows"), "{why}"),
+        other => panic!("{other:?}"),
+    }
 }
 
 // A plan for which there is no room is not stored at all.

@@ -225,6 +225,26 @@ fn a_full_log() {
     assert_eq!(store.write(0, 1), Err(store::Error::Refused(cindrolf::Refusal::DoesNotLead)));
 }
 
+// The statement that the reference shows, on the log whose values come to most for one client: 4,096 times 2^52 - 1.
+#[test]
+fn the_example_of_the_reference() {
+    let room = Scratch::new();
+    let file = room.file("run.db");
+    let mut store = Store::create(&file, 1, Capacity::Large).unwrap();
+    let lead = [Step::Become, Step::Fetch, Step::Create, Step::Append];
+    let plan: Vec<_> = lead.into_iter().chain([Step::Write(MAX_VALUE); 4_096]).collect();
+    let plan: Vec<_> = plan.into_iter().map(|step| StepWord::new(0, step).unwrap()).collect();
+    store.run_plan(&plan, u64::MAX).unwrap();
+    let reference = concat!(env!("CARGO_MANIFEST_DIR"), "/../../docs/REFERENCE.md");
+    let reference = std::fs::read_to_string(reference).unwrap();
+    let mut examples = reference.lines().filter_map(|line| line.strip_prefix("    SELECT client, count(*) AS reads, "));
+    let (errors, rest) = examples.next().unwrap().split_once(" AS errors ").unwrap();
+    assert_eq!((rest, examples.next()), ("FROM chain GROUP BY client;", None));
+    // 18446744.073709548 expected errors, in whole ones, since a connection of ours reads no real number.
+    let select = format!("(SELECT count(*) AS reads, CAST({errors} AS INTEGER) AS errors FROM chain GROUP BY client)");
+    assert_eq!(rows(&file, &select, "reads, errors").0, ["4096 18446744"]);
+}
+
 #[test]
 fn a_plan_is_its_steps() {
     let mut random = Random::new(6);

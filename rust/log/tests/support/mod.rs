@@ -2,10 +2,29 @@
 
 #![allow(dead_code)]
 
-use std::io::Write;
+use std::io::{BufRead, BufReader, Lines, Write};
 use std::path::{Path, PathBuf};
-use std::process::{Child, Command, Stdio};
+use std::process::{Child, ChildStdin, ChildStdout, Command, Stdio};
 use std::sync::atomic::{AtomicU64, Ordering};
+use std::time::Duration;
+use store::Fault;
+use store::database::{Database, Mode, Value};
+
+pub const SIGHUP: i32 = 1;
+pub const SIGINT: i32 = 2;
+pub const SIGTERM: i32 = 15;
+pub const SIGCONT: i32 = 18;
+pub const SIGSTOP: i32 = 19;
+
+unsafe extern "C" {
+    fn kill(process: i32, signal: i32) -> i32;
+}
+
+/// Sends a signal to a child that was not waited for yet.
+pub fn send(child: &Child, signal: i32) {
+    // SAFETY: it takes two numbers.
+    assert_eq!(unsafe { kill(child.id() as i32, signal) }, 0);
+}
 
 /// A folder of its own, which is removed with it.
 pub struct Folder(PathBuf);
@@ -72,6 +91,39 @@ impl Folder {
         assert_eq!(self.output(args), "", "{args:?}");
     }
 
+    /// The first line that the check of a file prints.
+    pub fn checked(&self, file: &str) -> String {
+        self.output(&["check", file]).lines().next().unwrap().to_owned()
+    }
+
+    /// The last row of a log, by the rule of the reference for checksums.
+    pub fn last_row(&self, file: &str) -> String {
+        rows(&self.path(file))
+            .last()
+            .map_or("0:cbf29ce484222325".into(), |(number, sum)| format!("{number}:{sum:016x}"))
+    }
+
+    /// The names in it, in their order.
+    pub fn names(&self) -> Vec<String> {
+        let files = std::fs::read_dir(&self.0).unwrap();
+        let mut names: Vec<_> = files.map(|file| file.unwrap().file_name().into_string().unwrap()).collect();
+        names.sort();
+        names
+    }
+
+    /// Copies a single file, as a person would who does not know of the files beside it.
+    pub fn copy_one(&self, from: &str, to: &str) {
+        std::fs::copy(self.path(from), self.path(to)).unwrap();
+    }
+
+    /// A shell that has this script run the program, as `$0`, in the folder.
+    pub fn shell(&self, script: &str) -> Command {
+        let mut shell = Command::new("sh");
+        shell.args(["-c", script, env!("CARGO_BIN_EXE_log")]).current_dir(&self.0);
+        shell.stdin(Stdio::null()).stdout(Stdio::piped()).stderr(Stdio::piped());
+        shell
+    }
+
     /// Takes these steps on `run.log`, and gives the replies.
     pub fn steps(&self, lines: &[&str]) -> String {
         self.output(&[&["step", "run.log"], lines].concat())
@@ -91,10 +143,74 @@ impl Drop for Folder {
     }
 }
 
+/// A process that takes steps on `run.log` line by line.
+pub struct Stepper {
+    pub child: Child,
+    pub input: ChildStdin,
+    pub replies: Lines<BufReader<ChildStdout>>,
+}
+
+impl Stepper {
+    pub fn start(folder: &Folder) -> Self {
+        Stepper::of(folder.program(&["step", "run.log"]))
+    }
+
+    pub fn of(mut program: Command) -> Self {
+        let mut child = program.stdin(Stdio::piped()).spawn().unwrap();
+        let (input, output) = (child.stdin.take().unwrap(), child.stdout.take().unwrap());
+        Stepper { child, input, replies: BufReader::new(output).lines() }
+    }
+
+    /// Gives it one line, and waits for the reply to it before there is another.
+    pub fn take(&mut self, line: &str) -> String {
+        writeln!(self.input, "{line}").unwrap();
+        self.replies.next().unwrap().unwrap()
+    }
+
+    pub fn end(self) {
+        drop(self.input);
+        let end = ended(self.child);
+        assert_eq!((end.status, end.errors.as_str()), (Some(0), ""));
+    }
+}
+
 pub fn ended(child: Child) -> Ended {
     let output = child.wait_with_output().unwrap();
     let text = |bytes: Vec<u8>| String::from_utf8(bytes).unwrap();
     Ended { status: output.status.code(), output: text(output.stdout), errors: text(output.stderr) }
+}
+
+/// Each row of a log with its checksum, as the reference says: of the other columns, from that of the row before on.
+fn rows(path: &Path) -> Vec<(i64, u64)> {
+    let database = Database::open(path, Mode::Existing, Duration::from_secs(10)).unwrap();
+    let columns = "seq, kind, client, input, answer, at1, word1, at2, word2, at3, word3";
+    let (mut rows, mut sum) = (Vec::new(), 0xCBF2_9CE4_8422_2325_u64);
+    let mut select = database.prepare(&format!("SELECT {columns} FROM journal ORDER BY seq")).unwrap();
+    let read = select.each(&[], |row| {
+        for column in 0..11 {
+            for word in words(row.value(column)) {
+                sum = (sum ^ word).wrapping_mul(0x100_0000_01B3);
+            }
+        }
+        let Value::Integer(number) = row.value(0) else { panic!("a row without a number") };
+        rows.push((number, sum));
+        Ok::<(), Fault>(())
+    });
+    read.unwrap();
+    rows
+}
+
+/// What a column adds to a checksum.
+fn words(value: Value<'_>) -> Vec<u64> {
+    match value {
+        Value::Null => vec![u64::MAX],
+        Value::Integer(number) => vec![number as u64],
+        Value::Blob(bytes) => {
+            let word = |chunk: &[u8]| chunk.iter().rev().fold(0, |word, &byte| word << 8 | u64::from(byte));
+            std::iter::once(bytes.len() as u64).chain(bytes.chunks(8).map(word)).collect()
+        }
+        Value::Text(_) => panic!("a text in a row"),
+    }
 }
 
 /// The values of a chain line.

@@ -1,0 +1,103 @@
+//! The write-ahead log copied to the file, only while the write lock is held for certain.
+//!
+//! SQLite copies it by itself without that lock. Where one process has read how long the log is, another begins it again,
+//! and the first goes on, then the first notes pages as copied that were never there, and the steps in them are lost. So
+//! here one connection holds the lock, and another copies.
+
+use crate::database::{Database, Mode};
+use crate::file::FileNumber;
+use crate::store::Link;
+use crate::{Error, Store};
+use std::time::Duration;
+
+/// From how many pages on a write-ahead log is copied. While it grows a sync takes longer, so that this is half of what
+/// is usual.
+const LONG: i32 = 512;
+
+/// Who stores a row whose number is a multiple of this looks whether the log is that long: so only one process does.
+const EVERY: u64 = 64;
+
+impl Store {
+    /// Copies the write-ahead log to the file, and says whether that is all of it: then the file holds every step by
+    /// itself until the next one is stored. A process that reads at the same time may stand in the way. It waits for the
+    /// lock as a step does. Call it when there is nothing to store for a while.
+    pub fn checkpoint(&mut self) -> Result<bool, Error> {
+        if self.is_read_only() {
+            return Err(Error::ReadOnly);
+        }
+        self.guarded(|link| {
+            let patience = link.patience;
+            link.copy_to_file(patience)
+        })
+    }
+
+    /// Closes the log. What this store has stored is copied to the file, unless another process holds the lock just then.
+    /// Where no other process has the log open, its write-ahead log goes, and one file is left. A store that is dropped
+    /// does the same, and cannot tell what failed; no step rests on it.
+    pub fn close(mut self) -> Result<(), Error> {
+        self.end()
+    }
+
+    fn end(&mut self) -> Result<(), Error> {
+        let holds = self.holds();
+        let Some(mut link) = self.link.take() else { return Ok(()) };
+        // Nothing is copied to a file that is not this log's.
+        holds?;
+        if self.is_read_only() {
+            return Ok(());
+        }
+        let copied = if link.to_copy { link.copy_to_file(Link::SHORT) } else { Ok(true) };
+        link.copier = None;
+        link.database.copy_on_closing()?;
+        match copied {
+            Err(error) if !error.is_busy() => Err(error),
+            _ => Ok(()),
+        }
+    }
+}
+
+impl Drop for Store {
+    fn drop(&mut self) {
+        let _ = self.end();
+    }
+}
+
+impl Link {
+    /// How long to wait for the lock for what can be done later.
+    pub const SHORT: Duration = Duration::from_millis(100);
+
+    /// Copies the write-ahead log if it is long and the present call has stored a row after which to look.
+    pub fn copy_if_long(&mut self) {
+        let seq = self.copy.seq as u64;
+        if self.added > 0 && self.database.pages() >= LONG && seq / EVERY != (seq - self.added) / EVERY {
+            // Where it cannot be done it is tried again after as many rows.
+            let _ = self.copy_to_file(Link::SHORT);
+        }
+    }
+
+    /// Copies the write-ahead log to the file, and says whether that is all of it.
+    pub fn copy_to_file(&mut self, patience: Duration) -> Result<bool, Error> {
+        let Some(beside) = &self.beside else { return Ok(true) };
+        if self.copier.is_none() {
+            let copier = Database::open_log(&self.database.file(), Mode::Existing, Link::SHORT)?;
+            copier.execute("PRAGMA synchronous = FULL")?;
+            // What it has opened by reading is what this connection has.
+            copier.number("PRAGMA application_id")?;
+            if FileNumber::of_open(&copier.file(), &copier)? != self.file {
+                return Err(Error::Replaced);
+            }
+            beside.holds()?;
+            self.copier = Some(copier);
+        }
+        self.database.set_patience(patience);
+        let begun = self.begin.execute(&[]);
+        self.database.set_patience(self.patience);
+        begun?;
+        // Meanwhile it may have lost its name, and others may have gone on without it.
+        let holds = beside.holds();
+        let copied = holds.and_then(|()| self.copier.as_ref().map_or(Ok(false), Database::copy_under_lock));
+        self.rollback.execute(&[])?;
+        self.to_copy &= !matches!(copied, Ok(true));
+        Ok(copied?)
+    }
+}

@@ -1,0 +1,89 @@
+//! The files of a log on the disk: which ones they are, and whether their names still lead to them.
+
+use crate::Error;
+use crate::database::{Database, Fault};
+use crate::sqlite;
+use std::io::ErrorKind;
+use std::os::unix::fs::MetadataExt;
+use std::path::{Path, PathBuf};
+
+/// A file, whatever its name is: its device and its number there.
+#[derive(Clone, Copy, Debug, PartialEq, Eq)]
+pub(crate) struct FileNumber {
+    pub device: u64,
+    pub inode: u64,
+}
+
+impl FileNumber {
+    /// The file that this name leads to. One of several names is refused: SQLite makes the name of the write-ahead log
+    /// from that of the file, so that under each name there would be another.
+    pub fn of_log(path: &Path) -> Result<Self, Error> {
+        match std::fs::metadata(path) {
+            Ok(file) if file.is_dir() => Err(Error::NoLog("it is a folder".into())),
+            Ok(file) if file.nlink() > 1 => Err(Error::Unfit(format!(
+                "it has {} names (hard links), and steps by different names would not see each other: remove the others \
+                 (find -samefile lists them), or replace them by copies",
+                file.nlink()
+            ))),
+            Ok(file) => Ok(Self::of(&file)),
+            Err(error) if error.kind() == ErrorKind::NotFound => Err(Error::Missing),
+            Err(error) => Err(Error::File(error.to_string())),
+        }
+    }
+
+    /// The file that this name leads to, and that the connection has open.
+    pub fn of_open(path: &Path, database: &Database) -> Result<Self, Error> {
+        let file = Self::of_log(path)?;
+        // SQLite compares what it has open with what the name leads to now: if that was replaced before the look above,
+        // it tells, and if later, the number above is the one that it has.
+        if database.moved()? { Err(Error::Replaced) } else { Ok(file) }
+    }
+
+    pub fn of(file: &std::fs::Metadata) -> Self {
+        FileNumber { device: file.dev(), inode: file.ino() }
+    }
+}
+
+/// The write-ahead log beside a log's file.
+pub(crate) struct Beside {
+    path: PathBuf,
+    file: FileNumber,
+}
+
+impl Beside {
+    /// The one that the connection has open, once it has read: then it has opened it, and holds a lock for which nobody
+    /// removes it.
+    pub fn of_open(database: &Database) -> Result<Self, Error> {
+        let path = database.beside();
+        match std::fs::metadata(&path) {
+            Ok(file) => Ok(Beside { file: FileNumber::of(&file), path }),
+            Err(_) => Err(detached(&path).into()),
+        }
+    }
+
+    /// That its name still leads to it. What is written to it otherwise, nobody else will ever read.
+    pub fn holds(&self) -> Result<(), Fault> {
+        match std::fs::metadata(&self.path) {
+            Ok(file) if FileNumber::of(&file) == self.file => Ok(()),
+            _ => Err(detached(&self.path)),
+        }
+    }
+
+    /// Whether there is nothing in it.
+    pub fn is_empty(path: &Path) -> bool {
+        std::fs::metadata(path).is_ok_and(|file| file.len() == 0)
+    }
+}
+
+/// Leaves a file that is no log, or a damaged one, as it is: what stands in its write-ahead log is not copied to it. An
+/// empty one was made only now, and goes.
+pub(crate) fn leave(database: &Database) {
+    if Beside::is_empty(&database.beside()) {
+        let _ = database.copy_on_closing();
+    }
+}
+
+fn detached(path: &Path) -> Fault {
+    let message = format!("{} was removed or replaced while the log was open", path.display());
+    Fault { code: sqlite::IOERR_VNODE, message }
+}
