@@ -414,7 +414,7 @@ struct cindrolf_sentence_said cindrolf_read_sentence(const char *text, size_t te
 #define CINDROLF_SEEN_READ UINT64_C(1)          /* a read that began after the latest turn is over; now `first` rows are known, none awaited */
 #define CINDROLF_SEEN_NEXT UINT64_C(2)          /* a read has come to a row: `first` rows are known before it, and its id is `second` */
 #define CINDROLF_SEEN_PLACED UINT64_C(3)        /* the reply to the append: `first` rows are known, and the row is at place `second` */
-#define CINDROLF_SEEN_ACCEPTED UINT64_C(4)      /* the request is accepted on the copy; `first` is an id that no append ever had */
+#define CINDROLF_SEEN_ACCEPTED UINT64_C(4)      /* the request is accepted on the copy; `first` is an id that no append ever had, or 0 */
 #define CINDROLF_SEEN_REFUSED UINT64_C(5)       /* the request is refused on the copy, each of its steps */
 #define CINDROLF_SEEN_SILENCE UINT64_C(6)       /* no reply came */
 #define CINDROLF_SEEN_STOP UINT64_C(7)          /* the one who asked waits no longer */
@@ -442,7 +442,8 @@ struct cindrolf_turn {
 struct cindrolf_turn cindrolf_decide(uint64_t phase, uint64_t id, uint64_t seen, uint64_t first, uint64_t second);
 
 /* The id of a request: start * 2^32 + count, by the number that the controller drew from the engine when it started, 1 to 2^32 - 1, and its
- * count of requests since, from 0. Two requests with other numbers have other ids. 0, which is no id, where one of the two has no room. */
+ * count of requests since, from 0. Two requests with other numbers have other ids. 0, which is no id, where one of the two has no room; what
+ * is accepted with id 0 is withdrawn. Draw another number then. */
 uint64_t cindrolf_request_id(uint64_t start, uint64_t count);
 
 #ifdef __cplusplus

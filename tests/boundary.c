@@ -1004,7 +1004,7 @@ static void check_small(void) {
 
 #define ID UINT64_C(0x0000000300000009)
 
-/* One request from asking to telling, with a row of another before its own; a halt; and numbers that name nothing. */
+/* One request from asking to telling, with a row of another before its own; an id of 0; a halt; and numbers that name nothing. */
 static const struct {
     const char *what;
     uint64_t phase, id, seen, first, second;
@@ -1012,6 +1012,7 @@ static const struct {
 } turns[] = {
     {"asked", CINDROLF_PHASE_IDLE, 0, CINDROLF_SEEN_ASKED, 0, 0, {CINDROLF_PHASE_ASKED, 0, CINDROLF_ACT_TRY}},
     {"accepted", CINDROLF_PHASE_ASKED, 0, CINDROLF_SEEN_ACCEPTED, ID, 0, {CINDROLF_PHASE_WAITING, ID, CINDROLF_ACT_APPEND}},
+    {"no id", CINDROLF_PHASE_ASKED, 0, CINDROLF_SEEN_ACCEPTED, 0, 0, {CINDROLF_PHASE_IDLE, 0, CINDROLF_ACT_WITHDRAW}},
     {"placed", CINDROLF_PHASE_WAITING, ID, CINDROLF_SEEN_PLACED, 4, 5, {CINDROLF_PHASE_WAITING, ID, CINDROLF_ACT_READ}},
     {"another's row", CINDROLF_PHASE_WAITING, ID, CINDROLF_SEEN_NEXT, 4, ID + 1, {CINDROLF_PHASE_WAITING, ID, CINDROLF_ACT_READ}},
     {"its own row", CINDROLF_PHASE_WAITING, ID, CINDROLF_SEEN_NEXT, 5, ID, {CINDROLF_PHASE_IDLE, 0, CINDROLF_ACT_TELL}},

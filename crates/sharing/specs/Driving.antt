@@ -39,8 +39,10 @@ module _ {M : Machine} (s : State M) (c : ℕ) where
         → Sees (seen.Next n (r .id))
     -- The reply is true when it is sent, and so for good.
     places : (m : Append M) (place : ℕ) (r : Row M) → me .phase ≡ waiting m → At (s .rows) place r → r .id ≡ m .id → Sees (seen.Placed (me .known) place)
-    accepts : (a : Asking M) (l : Bool) (id : ℕ) → me .phase ≡ asked a l → Accepts M (a .request) (me .copy)
+    accepts : (a : Asking M) (l : Bool) (id : ℕ) → me .phase ≡ asked a l → (id ≡ 0 → ⊥) → Accepts M (a .request) (me .copy)
         → ((m : Append M) → In m (s .sent) → m .id ≡ id → ⊥) → Sees (seen.Accepted id)
+    -- It has no id to give.
+    lacks-id : (a : Asking M) (l : Bool) → me .phase ≡ asked a l → Sees (seen.Accepted 0)
     refuses : (a : Asking M) (l : Bool) → me .phase ≡ asked a l → Refuses M (a .request) (me .copy) → Sees seen.Refused
     hears-nothing : Sees seen.Silence
     stops : Sees seen.Stop

@@ -15,13 +15,13 @@ use Rattle.sharing.specs.declared.controller.Seen.the-variants as seen
 use Rattle.sharing.specs.declared.controller.Act.{Act}
 use Rattle.sharing.specs.declared.controller.Act.the-variants as acts
 use Rattle.sharing.specs.declared.controller.Turn.{Turn}
-use Rattle.sharing.specs.Turns.{whenBetween, turn}
-use Rattle.sharing.specs.Laws.Turns.{next-own, next-other, placed-next, placed-further}
+use Rattle.sharing.specs.Turns.{whenAccepted, whenBetween, turn}
+use Rattle.sharing.specs.Laws.Turns.{accepted-some, next-own, next-other, placed-next, placed-further}
 use Rattle.sharing.specs.Places.{At, In}
 use Rattle.sharing.specs.Laws.Places.{at-less}
 use Rattle.sharing.specs.Sharing.{Machine, Accepts, Refuses, Row, Asking, Append, Phase, idle, asked, waiting, halted, Controller, State, withController, withSent, withTold, withDenied, withForgotten, inPhase, reading, passing, Runs, pending, asking, append, telling, denial, FreeFrom, Move, ask, look, read, refuse, send, tell, leave, halt, Reachable, Alone, none, more}
 use Rattle.sharing.specs.Laws.Invariant.{Invariant, PhaseRight, Ahead, idle-waits, same-append, reachable-invariant}
-use Rattle.sharing.specs.Driving.{shown, Sees, asks, asks-halted, reads-idle, reads-asked, reads-waiting, comes-to, places, accepts, refuses, hears-nothing, stops, differs, Does, knownBy, counted, Stays, Turned}
+use Rattle.sharing.specs.Driving.{shown, Sees, asks, asks-halted, reads-idle, reads-asked, reads-waiting, comes-to, places, accepts, lacks-id, refuses, hears-nothing, stops, differs, Does, knownBy, counted, Stays, Turned}
 use Rattle.sharing.specs.DrivingPromise.{TurnsAreMoves}
 
 stays-same : {M : Machine} (q : Phase M) → Stays q q
@@ -87,14 +87,32 @@ module _ {M : Machine} (base : M .Log) (s : State M) (c : ℕ) (v : Invariant ba
   asker : (a : Asking M) (l : Bool) → now .phase ≡ asked a l → a .asker ≡ c
   asker a l p = subst (PhaseRight s c (now .known)) p (v .controllers c .phase) .1
 
-  sends : (a : Asking M) (l : Bool) (id : ℕ) → now .phase ≡ asked a l → Accepts M (a .request) (now .copy)
+  -- A turn that is known by an equation.
+  by-turn : (o : Seen) (p : Phase M) (u : Turn) → turn (shown p) o ≡ u → (t : State M) (i : ℕ) → Alone base c s i t → i ≤ 2
+      → (r : Phase M) → t .controllers c .phase ≡ r → shown r ≡ u .phase → Stays p r → t .rows ≡ s .rows
+      → t .controllers c .known ≡ counted (u .act) (knownBy o (now .known)) → Does (u .act) s c t → Result o p
+  by-turn o p u q t i a b r x y z j k d = (
+    t,
+    record {
+      moves = (i, a, b);
+      phase = ap shown x ∙ y ∙ ap (λ (y : Turn). y .phase) (sym q);
+      asking = subst (Stays p) (sym x) z;
+      rows = j;
+      known = subst (λ (y : Turn). t .controllers c .known ≡ counted (y .act) (knownBy o (now .known))) (sym q) k;
+      does = subst (λ (y : Turn). Does (y .act) s c t) (sym q) d;
+    },
+  )
+
+  sends : (a : Asking M) (l : Bool) (id : ℕ) → now .phase ≡ asked a l → (id ≡ 0 → ⊥) → Accepts M (a .request) (now .copy)
+      → ((m : Append M) → In m (s .sent) → m .id ≡ id → ⊥) → turn (shown (asked a l)) (seen.Accepted id) ≡ whenAccepted id → Result (seen.Accepted id) (asked a l)
+  sends a l id p some ok new e = let m : Append M = append id a in let k : Controller M = inPhase (waiting m) now in
+      by-turn (seen.Accepted id) (asked a l) _ (e ∙ accepted-some id some) (withSent m (withController c k s)) 1 (more none (send a l id p ok new)) (omega arith)
+      (waiting m) (new-phase k) refl refl refl (new-known k) ((refl, refl), (m, new-phase k, inl refl, asker a l p))
+
+  accepted : (a : Asking M) (l : Bool) (id : ℕ) → now .phase ≡ asked a l → (id ≡ 0 → ⊥) → Accepts M (a .request) (now .copy)
       → ((m : Append M) → In m (s .sent) → m .id ≡ id → ⊥) → Result (seen.Accepted id) (asked a l)
-  sends a false id p ok new = let m : Append M = append id a in let k : Controller M = inPhase (waiting m) now in
-      goes (seen.Accepted id) (asked a false) (waiting m) (withSent m (withController c k s)) (send a false id p ok new) (new-phase k) refl refl refl (new-known k)
-      ((refl, refl), (m, new-phase k, inl refl, asker a false p))
-  sends a true id p ok new = let m : Append M = append id a in let k : Controller M = inPhase (waiting m) now in
-      goes (seen.Accepted id) (asked a true) (waiting m) (withSent m (withController c k s)) (send a true id p ok new) (new-phase k) refl refl refl (new-known k)
-      ((refl, refl), (m, new-phase k, inl refl, asker a true p))
+  accepted a false id p some ok new = sends a false id p some ok new refl
+  accepted a true id p some ok new = sends a true id p some ok new refl
 
   refused : (a : Asking M) (l : Bool) → now .phase ≡ asked a l → Refuses M (a .request) (now .copy) → Result seen.Refused (asked a l)
   refused a false p e = stays seen.Refused (asked a false) p refl refl (refl, refl)
@@ -131,6 +149,12 @@ module _ {M : Machine} (base : M .Log) (s : State M) (c : ℕ) (v : Invariant ba
       ((refl, refl), awaited m p)
   stopped halted p = stays seen.Stop halted p refl refl (refl, refl)
 
+  no-id : (a : Asking M) (l : Bool) → now .phase ≡ asked a l → Result (seen.Accepted 0) (asked a l)
+  no-id a false p = goes (seen.Accepted 0) (asked a false) idle without (leaves (asked a false) p tt) (new-phase gone) refl tt refl (new-known gone)
+      ((refl, refl), (refl, inl (a, false, p)))
+  no-id a true p = goes (seen.Accepted 0) (asked a true) idle without (leaves (asked a true) p tt) (new-phase gone) refl tt refl (new-known gone)
+      ((refl, refl), (refl, inl (a, true, p)))
+
   abbrev ended : Controller M
   ended = inPhase halted now
 
@@ -146,22 +170,6 @@ module _ {M : Machine} (base : M .Log) (s : State M) (c : ℕ) (v : Invariant ba
   other-history (waiting m) p = goes seen.OtherHistory (waiting m) halted ending halt (new-phase ended) refl tt refl (new-known ended)
       ((refl, refl), awaited m p)
   other-history halted p = stays seen.OtherHistory halted p refl refl (refl, refl)
-
-  -- A turn that is known by an equation.
-  by-turn : (o : Seen) (m : Append M) (u : Turn) → turn (shown (waiting m)) o ≡ u → (t : State M) (i : ℕ) → Alone base c s i t → i ≤ 2
-      → (r : Phase M) → t .controllers c .phase ≡ r → shown r ≡ u .phase → Stays (waiting m) r → t .rows ≡ s .rows
-      → t .controllers c .known ≡ counted (u .act) (knownBy o (now .known)) → Does (u .act) s c t → Result o (waiting m)
-  by-turn o m u q t i a b r x y z j k d = (
-    t,
-    record {
-      moves = (i, a, b);
-      phase = ap shown x ∙ y ∙ ap (λ (y : Turn). y .phase) (sym q);
-      asking = subst (Stays (waiting m)) (sym x) z;
-      rows = j;
-      known = subst (λ (y : Turn). t .controllers c .known ≡ counted (y .act) (knownBy o (now .known))) (sym q) k;
-      does = subst (λ (y : Turn). Does (y .act) s c t) (sym q) d;
-    },
-  )
 
   -- It has read on while it waits, not past its own row.
   module _ (m : Append M) (n : ℕ) (p : now .phase ≡ waiting m) (h : now .known ≤ n) (w : n ≤ length (s .rows)) (f : FreeFrom (s .rows) (now .known) n (m .id)) where
@@ -186,7 +194,7 @@ module _ {M : Machine} (base : M .Log) (s : State M) (c : ℕ) (v : Invariant ba
         own : r .id ≡ m .id → Result (seen.Next n (r .id)) (waiting m)
         own e =
             let k : Controller M = passing m (looking .controllers c) in
-            by-turn (seen.Next n (r .id)) m _ (next-own (m .id) (r .id) e)
+            by-turn (seen.Next n (r .id)) (waiting m) _ (next-own (m .id) (r .id) e)
             (withTold (telling m (looking .controllers c) looking) (withController c k looking)) 2
             (more (more none looks) (tell m r still (subst (λ (j : ℕ). At (s .rows) j r) (sym (new-known further)) there) e)) (omega arith)
             idle (ap (λ (z : Controller M). z .phase) (put-same (looking .controllers) c k)) refl tt refl
@@ -194,7 +202,7 @@ module _ {M : Machine} (base : M .Log) (s : State M) (c : ℕ) (v : Invariant ba
             (m, p, (telling m (looking .controllers c) looking, refl, refl), refl)
 
         another : (r .id ≡ m .id → ⊥) → Result (seen.Next n (r .id)) (waiting m)
-        another e = by-turn (seen.Next n (r .id)) m _ (next-other (m .id) (r .id) e) looking 1 (more none looks) (omega arith) (waiting m) still refl refl refl (new-known further) (refl, refl)
+        another e = by-turn (seen.Next n (r .id)) (waiting m) _ (next-other (m .id) (r .id) e) looking 1 (more none looks) (omega arith) (waiting m) still refl refl refl (new-known further) (refl, refl)
 
   -- It knows where its own row is.
   placed : (m : Append M) (place : ℕ) (r : Row M) → now .phase ≡ waiting m → At (s .rows) place r → r .id ≡ m .id → Result (seen.Placed (now .known) place) (waiting m)
@@ -204,12 +212,12 @@ module _ {M : Machine} (base : M .Log) (s : State M) (c : ℕ) (v : Invariant ba
       next-one h =
           let k : Controller M = passing m now in
           let here : place ≡ now .known = omega (arith, waits m p .2 place r there e) in
-          by-turn (seen.Placed (now .known) place) m _ (placed-next (m .id) (now .known) place h) (withTold (telling m now s) (withController c k s)) 1
+          by-turn (seen.Placed (now .known) place) (waiting m) _ (placed-next (m .id) (now .known) place h) (withTold (telling m now s) (withController c k s)) 1
           (more none (tell m r p (subst (λ (j : ℕ). At (s .rows) j r) here there) e)) (omega arith) idle (new-phase k) refl tt refl (new-known k)
           (m, p, (telling m now s, refl, refl), refl)
 
       further-on : now .known < place → Result (seen.Placed (now .known) place) (waiting m)
-      further-on h = by-turn (seen.Placed (now .known) place) m _ (placed-further (m .id) (now .known) place h) s 0 none (omega arith) (waiting m) p refl refl refl refl
+      further-on h = by-turn (seen.Placed (now .known) place) (waiting m) _ (placed-further (m .id) (now .known) place h) s 0 none (omega arith) (waiting m) p refl refl refl refl
           (quietly m p whenBetween tt)
 
   result : (o : Seen) (q : Phase M) → now .phase ≡ q → Result o q → Result o (now .phase)
@@ -225,7 +233,8 @@ module _ {M : Machine} (base : M .Log) (s : State M) (c : ℕ) (v : Invariant ba
   every-turn o (reads-waiting m n p h w f) = result o (waiting m) p (read-waiting m n p h w f)
   every-turn o (comes-to m n r p h f there) = result o (waiting m) p (next m n p h (let w = at-less (s .rows) n r there in omega (arith, w)) f r there)
   every-turn o (places m place r p there e) = result o (waiting m) p (placed m place r p there e)
-  every-turn o (accepts a l id p ok new) = result o (asked a l) p (sends a l id p ok new)
+  every-turn o (accepts a l id p some ok new) = result o (asked a l) p (accepted a l id p some ok new)
+  every-turn o (lacks-id a l p) = result o (asked a l) p (no-id a l p)
   every-turn o (refuses a l p e) = result o (asked a l) p (refused a l p e)
   every-turn o hears-nothing = silent (now .phase) refl
   every-turn o stops = stopped (now .phase) refl

@@ -15,7 +15,7 @@ use Rattle.sharing.specs.Driving.{shown, Sees, Turned}
 
 -- How the engine serves an act that was begun in state s and is over in state t: what is seen, and the state then.
 pub data Served {M : Machine} (base : M .Log) (c : ℕ) (s t : State M) : Act → Seen → State M → Type 0 where
-  takes-it : (a : Asking M) (l : Bool) (id : ℕ) → t .controllers c .phase ≡ asked a l → Accepts M (a .request) (t .controllers c .copy)
+  takes-it : (a : Asking M) (l : Bool) (id : ℕ) → t .controllers c .phase ≡ asked a l → (id ≡ 0 → ⊥) → Accepts M (a .request) (t .controllers c .copy)
       → ((m : Append M) → In m (t .sent) → m .id ≡ id → ⊥) → Served base c s t acts.Try (seen.Accepted id) t
   takes-not : (a : Asking M) (l : Bool) → t .controllers c .phase ≡ asked a l → Refuses M (a .request) (t .controllers c .copy)
       → Served base c s t acts.Try seen.Refused t

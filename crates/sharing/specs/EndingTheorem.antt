@@ -14,8 +14,8 @@ use Rattle.sharing.specs.declared.controller.Seen.the-variants as seen
 use Rattle.sharing.specs.declared.controller.Act.{Act}
 use Rattle.sharing.specs.declared.controller.Act.the-variants as acts
 use Rattle.sharing.specs.declared.controller.Turn.{Turn}
-use Rattle.sharing.specs.Turns.{turn}
-use Rattle.sharing.specs.Laws.Turns.{next-own, placed-next, placed-further}
+use Rattle.sharing.specs.Turns.{whenAccepted, turn}
+use Rattle.sharing.specs.Laws.Turns.{accepted-some, next-own, placed-next, placed-further}
 use Rattle.sharing.specs.Places.{At, In}
 use Rattle.sharing.specs.Laws.Places.{at-less, at-new}
 use Rattle.sharing.specs.Sharing.{Machine, Accepts, Refuses, Row, Asking, Append, row, Phase, idle, asked, waiting, halted, Controller, State, withRow, Free, FreeFrom, Move, store, Reachable, Around, Alone, none, more}
@@ -86,7 +86,7 @@ module _ {M : Machine} (base : M .Log) (c : ℕ) where
       (here : At (s .rows) i r) (e : r .id ≡ m .id) where
     module _ (t : State M) (w : Invariant base t) (q : t .controllers c .phase ≡ waiting m) (there : At (t .rows) i r) where
       read-case : (a : Act) → a ≡ acts.Read → (o : Seen) (u : State M) → Served base c s t a o u → Then n u o
-      read-case a x o u (takes-it b l id y ok new) = apart-phases b l m (sym y ∙ q)
+      read-case a x o u (takes-it b l id y some ok new) = apart-phases b l m (sym y ∙ q)
       read-case a x o u (takes-not b l y bad) = apart-phases b l m (sym y ∙ q)
       read-case a x o u (reads-on b l k y h f g) = apart-phases b l m (sym y ∙ q)
       read-case a x o u (reads-past d k y h f g free) = absurd (free i r there
@@ -128,7 +128,7 @@ module _ {M : Machine} (base : M .Log) (c : ℕ) where
 
     append-case : (t : State M) → Invariant base t → t .controllers c .phase ≡ waiting m → (a : Act) → a ≡ acts.Append
         → (o : Seen) (u : State M) → Served base c s t a o u → Then (suc n) u o
-    append-case t w q a x o u (takes-it b l id y ok new) = apart-phases b l m (sym y ∙ q)
+    append-case t w q a x o u (takes-it b l id y some ok new) = apart-phases b l m (sym y ∙ q)
     append-case t w q a x o u (takes-not b l y bad) = apart-phases b l m (sym y ∙ q)
     append-case t w q a x o u (reads-on b l k y h f g) = apart-phases b l m (sym y ∙ q)
     append-case t w q a x o u (reads-past d k y h f g free) = let z : _≡_ {A = ℕ} 0 1 = cc in absurd (omega arith)
@@ -159,14 +159,15 @@ module _ {M : Machine} (base : M .Log) (c : ℕ) where
 
     -- What a turn comes to where the request is accepted, and where it is refused.
     abbrev OnAccepted : State M → Type 0
-    OnAccepted t = (id : ℕ) (w : State M) → Invariant base w → Turned base t c (asked a l) (seen.Accepted id) w → Ends base c n w (turn (shown (asked a l)) (seen.Accepted id) .act)
+    OnAccepted t = (id : ℕ) → (id ≡ 0 → ⊥) → (w : State M) → Invariant base w → Turned base t c (asked a l) (seen.Accepted id) w
+        → Ends base c n w (turn (shown (asked a l)) (seen.Accepted id) .act)
 
     abbrev OnRefused : State M → Type 0
     OnRefused t = (w : State M) → Invariant base w → Turned base t c (asked a l) seen.Refused w → Ends base c n w (turn (shown (asked a l)) seen.Refused .act)
 
     take-case : (t : State M) → Invariant base t → t .controllers c .phase ≡ asked a l → OnAccepted t → OnRefused t → (x : Act) → x ≡ acts.Try
         → (o : Seen) (u : State M) → Served base c s t x o u → Then n u o
-    take-case t w q f g x e o u (takes-it b k id y ok new) = after-turn n t w (asked a l) q (seen.Accepted id) (accepts b k id y ok new) (f id)
+    take-case t w q f g x e o u (takes-it b k id y some ok new) = after-turn n t w (asked a l) q (seen.Accepted id) (accepts b k id y some ok new) (f id some)
     take-case t w q f g x e o u (takes-not b k y bad) = after-turn n t w (asked a l) q seen.Refused (refuses b k y bad) g
     take-case t w q f g x e o u (reads-on b k j y h i z) = let z : _≡_ {A = ℕ} 0 1 = cc in absurd (omega arith)
     take-case t w q f g x e o u (reads-past d k y h i z free) = let z : _≡_ {A = ℕ} 0 1 = cc in absurd (omega arith)
@@ -177,15 +178,23 @@ module _ {M : Machine} (base : M .Log) (c : ℕ) where
     takes : (t : State M) → t .controllers c .phase ≡ asked a l → (o : Seen) × (u : State M) × Served base c s t acts.Try o u
     takes t q = by-bool (M .refuses (M .answer (a .request) (t .controllers c .copy)))
         (λ h. (_, t, takes-not a l q h))
-        (λ h. let k = new-id (t .sent) in (_, t, takes-it a l (k .0) q h (λ m i e. omega (arith, k .1 m i))))
+        (λ h. let k = new-id (t .sent) in (_, t, takes-it a l (k .0) q (λ e. omega (arith, k .2, e)) h (λ m i e. omega (arith, k .1 m i))))
 
     from-taking : Invariant base s → s .controllers c .phase ≡ asked a l → ((t : State M) → OnAccepted t) → ((t : State M) → OnRefused t) → Ends base c (suc n) s acts.Try
     from-taking v p f g = inr (λ t r. let q : t .controllers c .phase ≡ asked a l = phase-after s t r ∙ p in
         (takes t q, take-case t (around-invariant base c s t v r) q (f t) (g t) acts.Try refl))
 
+  -- The request is accepted, and there is an id: it is sent.
+  on-accepted : (n id : ℕ) → (id ≡ 0 → ⊥) → (q : Phase M) → turn (shown q) (seen.Accepted id) ≡ whenAccepted id → (t w : State M) → Invariant base w
+      → Turned base t c q (seen.Accepted id) w → Ends base c (suc (suc n)) w (turn (shown q) (seen.Accepted id) .act)
+  on-accepted n id some q e t w x y =
+      let same : turn (shown q) (seen.Accepted id) ≡ record { phase = phases.Waiting id; act = acts.Append } = e ∙ accepted-some id some in
+      let m = sent-now (w .controllers c .phase) id (y .phase ∙ ap (λ (z : Turn). z .phase) same) in
+      subst (λ (z : Turn). Ends base c (suc (suc n)) w (z .act)) (sym same) (from-appending n w (m .0) x (m .1))
+
   from-current : (n : ℕ) (s : State M) → Invariant base s → (a : Asking M) → s .controllers c .phase ≡ asked a true → Ends base c (suc (suc (suc n))) s acts.Try
   from-current n s v a p = from-taking (suc (suc n)) s a true v p
-      (λ t id w x y. let m = sent-now (w .controllers c .phase) id (y .phase) in from-appending n w (m .0) x (m .1))
+      (λ t id some w x y. on-accepted n id some (asked a true) refl t w x y)
       (λ t w x y. ends-now base c (suc (suc n)) w acts.Refuse tt)
 
   -- It reads after the asking.
@@ -196,7 +205,7 @@ module _ {M : Machine} (base : M .Log) (c : ℕ) where
           subst (PhaseRight s c (s .controllers c .known)) p (v .controllers c .phase) in o .0 .since
 
       fresh-case : (x : Act) → x ≡ acts.Read → (o : Seen) (u : State M) → Served base c s t x o u → Then (suc (suc (suc n))) u o
-      fresh-case x e o u (takes-it b k id y ok new) = let z : _≡_ {A = ℕ} 0 1 = cc in absurd (omega arith)
+      fresh-case x e o u (takes-it b k id y some ok new) = let z : _≡_ {A = ℕ} 0 1 = cc in absurd (omega arith)
       fresh-case x e o u (takes-not b k y bad) = let z : _≡_ {A = ℕ} 0 1 = cc in absurd (omega arith)
       fresh-case x e o u (reads-on b k j y h i z) = after-turn (suc (suc (suc n))) t w (asked a false) q (seen.Read j)
           (reads-asked a false j q h (omega (arith, since)) z)
@@ -216,7 +225,7 @@ module _ {M : Machine} (base : M .Log) (c : ℕ) where
   from-asked : (n : ℕ) (s : State M) → Invariant base s → (a : Asking M) → s .controllers c .phase ≡ asked a false
       → Ends base c (suc (suc (suc (suc (suc n))))) s acts.Try
   from-asked n s v a p = from-taking (suc (suc (suc (suc n)))) s a false v p
-      (λ t id w x y. let m = sent-now (w .controllers c .phase) id (y .phase) in from-appending (suc (suc n)) w (m .0) x (m .1))
+      (λ t id some w x y. on-accepted (suc (suc n)) id some (asked a false) refl t w x y)
       (λ t w x y. from-reading n w x a (is-asked a false (w .controllers c .phase) (y .asking) (y .phase)))
 
 pub turns-end : {M : Machine} (base : M .Log) (s : State M) → Reachable base s → TurnsEnd base s

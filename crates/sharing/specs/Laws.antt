@@ -3,3 +3,4 @@ pub mod Turns
 pub mod Numbers
 pub mod Places
 pub mod Invariant
+pub mod Withdrawn

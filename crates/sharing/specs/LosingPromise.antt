@@ -16,6 +16,8 @@ use Rattle.sharing.specs.Losing.{Contents, table, chainValue, Agrees, Co
 pub record LossIsFound (h : ℕ → Contents → ℕ) (first : ℕ) : Type 0 where
   -- An engine that agrees with what is known has these very rows; or here are two that h takes to one value.
   pub found : (engine known : List Contents) → Agrees h first engine (length known) (chainValue h first known) → (take (length known) engine ≡ known) ⊎ Collision h
+  -- The value of the last row is all that has to be kept to go on.
+  pub goes-on : (known more : List Contents) → chainValue h first (known ++ more) ≡ chainValue h (chainValue h first known) more
   -- And what is known after a read is the beginning of its rows: a controller never mixes two histories.
   pub reads-on : (engine known : List Contents) (n : ℕ) → Agrees h first engine (length known) (chainValue h first known) → length known ≤ n
       → (known ++ drop (length known) (take n engine) ≡ take n engine) ⊎ Collision h

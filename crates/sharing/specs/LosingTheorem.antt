@@ -65,6 +65,11 @@ module _ (h : ℕ → Contents → ℕ) where
       (λ (q : (first ≡ first) × (take (length known) engine ≡ known)). inl (q .1)) (λ (q : Collision h). inr q)
       (same-chain first first (take (length known) engine) known (length-take-le (length known) engine (o .0)) (o .1))
 
+  goes-on : (v : ℕ) (known more : List Contents) → chainValue h v (known ++ more) ≡ chainValue h (chainValue h v known) more
+  unfolding chainValue
+  goes-on v [] more = refl
+  goes-on v (x ∷ known) more = goes-on (h v x) known more
+
   reads-on : (first : ℕ) (engine known : List Contents) (n : ℕ) → Agrees h first engine (length known) (chainValue h first known) → length known ≤ n
       → (known ++ drop (length known) (take n engine) ≡ take n engine) ⊎ Collision h
   reads-on first engine known n o w = ⊎-elim
@@ -81,6 +86,7 @@ module _ (h : ℕ → Contents → ℕ) where
 pub loss-is-found : (h : ℕ → Contents → ℕ) (first : ℕ) → LossIsFound h first
 loss-is-found h first = record {
   found = found h first;
+  goes-on = goes-on h first;
   reads-on = reads-on h first;
   not-by-last = λ a b d n. (refl, λ e. n (sym (ap first-row e)));
   stops = stops;

@@ -6,7 +6,7 @@ use mathlib.Core.List.{List, [], _∷_}
 use mathlib.Core.Logic.{_⊎_}
 use lib.ListN.{length}
 use Rattle.sharing.specs.Places.{At, In}
-use Rattle.sharing.specs.Sharing.{Machine, Refuses, Row, replay, replies, logAt, Asking, Append, row, asked, waiting, halted, Telling, Denied, State, starting, Move, Run, Around}
+use Rattle.sharing.specs.Sharing.{Machine, Refuses, Row, replay, replies, logAt, Asking, Append, row, idle, asked, waiting, halted, Telling, Denied, State, starting, Move, Run, Around}
 
 -- What was told is the replay's answer at the request's own place.
 abbrev pub IsReply : {M : Machine} → M .Log → List (Row M) → Telling M → Type 0
@@ -47,6 +47,12 @@ pub record ToldOnce {M : Machine} (base : M .Log) (s : State M) : Type 0 where
   pub no-row : (d : Denied M) → In d (s .denied) → (t : State M) → Run base s t → (i : ℕ) (r : Row M) → At (t .rows) i r
       → (m : Append M) → In m (t .sent) → m .id ≡ r .id → OneAsking (m .asking) (d .asking) → ⊥
   pub not-both : (d : Denied M) → In d (s .denied) → (k : Telling M) → In k (s .told) → OneAsking (k .append .asking) (d .asking) → ⊥
+
+-- A controller that was asked and has nothing to do any more, without an append, never sends one for this asking: so it has no row, and never will.
+pub record WithdrawnHasNone {M : Machine} (base : M .Log) (s : State M) : Type 0 where
+  pub never : (c : ℕ) (a : Asking M) (l : Bool) → s .controllers c .phase ≡ asked a l → (t : State M) → Move base s c t
+      → (t .controllers c .phase ≡ idle) ⊎ (t .controllers c .phase ≡ halted) → (u : State M) → Run base t u
+      → (m : Append M) → In m (u .sent) → OneAsking (m .asking) a → ⊥
 
 -- Whose a row is.
 pub data Whose {M : Machine} (s : State M) (i : ℕ) (r : Row M) : Type 0 where

@@ -15,7 +15,8 @@ use Rattle.sharing.specs.Laws.Places.{at-less, at-one, at-new, in-map, i
 use Rattle.sharing.specs.Sharing.{Machine, Accepts, Refuses, Row, replay, replies, logAt, Asking, Append, row, Phase, idle, asked, waiting, halted, Controller, Telling, Denied, State, withController, withSent, withRow, inPhase, reading, passing, starting, Runs, append, Free, FreeFrom, Move, ask, look, read, refuse, send, store, tell, leave, crash, halt, Run, here, on, Reachable, Around, nothing, other, late}
 use Rattle.sharing.specs.Laws.Invariant as invariant
 use Rattle.sharing.specs.Laws.Invariant.{Invariant, PhaseRight, AskedRight, Ahead, Apart, Grows, grows-not, grows-one, Owned, own-row, same-append, move-invariant, run-invariant, reachable-invariant, around-run}
-use Rattle.sharing.specs.SharingPromise.{OneAsking, IsReply, ToldIsReplay, DifferentRows, DifferentAskings, ToldOnce, Whose, RowsAreAccounted, RealTimeOrder, RefusalsAreRight, IsTold, Within, WaitFree, CopiesAreFirstParts, HaltedIsSilent}
+use Rattle.sharing.specs.Laws.Withdrawn.{never-sent}
+use Rattle.sharing.specs.SharingPromise.{OneAsking, IsReply, ToldIsReplay, DifferentRows, DifferentAskings, ToldOnce, Whose, RowsAreAccounted, RealTimeOrder, RefusalsAreRight, IsTold, Within, WaitFree, CopiesAreFirstParts, HaltedIsSilent, WithdrawnHasNone}
 
 -- The answers of a replay, one by one.
 answers-at : {M : Machine} (rows : List (Row M)) (b : M .Log) (i : ℕ) (r : Row M) → At rows i r → At (replies rows b) i (M .answer (r .request) (logAt b rows i))
@@ -122,6 +123,9 @@ module _ {M : Machine} (base : M .Log) (s : State M) (r : Reachable base s) wher
     not-both = λ d i k j e. v .unsent d i (k .append) (v .told k j .sent) e;
   }
 
+  pub withdrawn-has-none : WithdrawnHasNone base s
+  withdrawn-has-none = record { never = never-sent base s v }
+
   pub rows-are-accounted : RowsAreAccounted s
   rows-are-accounted = record {
     whose = whose;
@@ -202,12 +206,13 @@ module _ {M : Machine} (base : M .Log) (s : State M) (r : Reachable base s) wher
     copy = λ c. v .controllers c .copy;
   }
 
--- There is an id that no append ever had.
-pub new-id : {M : Machine} (ms : List (Append M)) → (id : ℕ) × ((m : Append M) → In m ms → m .id < id)
-new-id [] = (0, λ m i. absurd i)
+-- There is an id that no append ever had, and that is not 0.
+pub new-id : {M : Machine} (ms : List (Append M)) → (id : ℕ) × ((m : Append M) → In m ms → m .id < id) × (0 < id)
+new-id [] = (1, (λ m i. absurd i), omega arith)
 new-id {M} (x ∷ ms) = let o = new-id ms in (
   o .0 + x .id + 1,
-  λ m i. ⊎-elim (λ (q : m ≡ x). omega (arith, ap (λ (y : Append M). y .id) q)) (λ (h : In m ms). omega (arith, o .1 m h)) i,
+  (λ m i. ⊎-elim (λ (q : m ≡ x). omega (arith, ap (λ (y : Append M). y .id) q)) (λ (h : In m ms). omega (arith, o .1 m h)) i),
+  omega arith,
 )
 
 -- A row has an id, or none has.

@@ -24,12 +24,16 @@ whenIdle Silence = to phases.Idle acts.Nothing
 whenIdle Stop = to phases.Idle acts.Nothing
 whenIdle OtherHistory = to phases.Halted acts.Nothing
 
+-- An id of 0 is none, and without an id nothing is sent.
+abbrev pub whenAccepted : ℕ → Turn
+whenAccepted id = cond (test (same id 0)) (to phases.Idle acts.Withdraw) (to (phases.Waiting id) acts.Append)
+
 abbrev pub whenAsked : Seen → Turn
 whenAsked Asked = to phases.Asked acts.Read
 whenAsked (Read n) = to phases.Current acts.Try
 whenAsked (Next n there) = to phases.Asked acts.Read
 whenAsked (Placed n place) = to phases.Asked acts.Read
-whenAsked (Accepted id) = to (phases.Waiting id) acts.Append
+whenAsked (Accepted id) = whenAccepted id
 whenAsked Refused = to phases.Asked acts.Read
 whenAsked Silence = to phases.Asked acts.Read
 whenAsked Stop = to phases.Idle acts.Withdraw
@@ -40,7 +44,7 @@ whenCurrent Asked = to phases.Current acts.Try
 whenCurrent (Read n) = to phases.Current acts.Try
 whenCurrent (Next n there) = to phases.Current acts.Try
 whenCurrent (Placed n place) = to phases.Current acts.Try
-whenCurrent (Accepted id) = to (phases.Waiting id) acts.Append
+whenCurrent (Accepted id) = whenAccepted id
 whenCurrent Refused = to phases.Idle acts.Refuse
 whenCurrent Silence = to phases.Current acts.Try
 whenCurrent Stop = to phases.Idle acts.Withdraw

@@ -22,7 +22,7 @@ pub enum Seen {
     Next(u64, u64),
     // The engine's reply to the append: so many rows are known, and the row is at this place.
     Placed(u64, u64),
-    // The request is accepted on the copy. The id is one that no append ever had.
+    // The request is accepted on the copy. The id is one that no append ever had, or 0 where there is none.
     Accepted(u64),
     // The request is refused on the copy, each of its steps.
     Refused,

@@ -7,7 +7,7 @@ use sharing::controller::Phase;
 use sharing::controller::Seen;
 use sharing::controller::Turn;
 ghost use mathlib.Core.Path.{_≡_};
-ghost use Rattle.sharing.specs.Turns.{whenIdle, whenAsked, whenCurrent, whenNext, whenPlaced, whenWaiting, whenHalted, turn};
+ghost use Rattle.sharing.specs.Turns.{whenIdle, whenAccepted, whenAsked, whenCurrent, whenNext, whenPlaced, whenWaiting, whenHalted, turn};
 
 fn when_idle(seen: Seen) -> Turn
     ensures { λ r. ⌜ r ≡ whenIdle seen ⌝ }
@@ -35,6 +35,23 @@ fn when_idle(seen: Seen) -> Turn
     }
 }
 
+// An id of 0 is none, and without an id nothing is sent.
+fn when_accepted(id: u64) -> Turn
+    ensures { λ r. ⌜ r ≡ whenAccepted id ⌝ }
+{
+    if id == 0 {
+        Turn {
+            phase: Phase::Idle,
+            act: Act::Withdraw,
+        }
+    } else {
+        Turn {
+            phase: Phase::Waiting(id),
+            act: Act::Append,
+        }
+    }
+}
+
 // A refusal counts only once the rows were read after the asking.
 fn when_asked(seen: Seen) -> Turn
     ensures { λ r. ⌜ r ≡ whenAsked seen ⌝ }
@@ -51,10 +68,7 @@ fn when_asked(seen: Seen) -> Turn
         },
         Seen::Next(_, _) => read_first,
         Seen::Placed(_, _) => read_first,
-        Seen::Accepted(id) => Turn {
-            phase: Phase::Waiting(id),
-            act: Act::Append,
-        },
+        Seen::Accepted(id) => when_accepted(id),
         Seen::Refused => read_first,
         Seen::Silence => read_first,
         Seen::Stop => Turn {
@@ -80,10 +94,7 @@ fn when_current(seen: Seen) -> Turn
         Seen::Read(_) => try_again,
         Seen::Next(_, _) => try_again,
         Seen::Placed(_, _) => try_again,
-        Seen::Accepted(id) => Turn {
-            phase: Phase::Waiting(id),
-            act: Act::Append,
-        },
+        Seen::Accepted(id) => when_accepted(id),
         Seen::Refused => Turn {
             phase: Phase::Idle,
             act: Act::Refuse,

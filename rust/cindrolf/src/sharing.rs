@@ -1,4 +1,4 @@
-//! What a controller of a shared log does next: the decisions that the drivers of engines call, and nothing else decides.
+//! What a controller of a shared log does next: the drivers of engines call these decisions, and nothing else decides.
 //!
 //! A driver keeps the [`Phase`] and a copy of the log, made of the first rows of the engine's table. It reports what it
 //! has [`Seen`], and does the [`Act`] that comes back. docs/SHARING.md says what a driver may report.
@@ -67,7 +67,8 @@ pub enum Seen {
     },
     /// The request is accepted on the copy, at least one of its steps.
     Accepted {
-        /// An id that no append ever had, as [`request_id`] gives it.
+        /// An id that no append ever had, as [`request_id`] gives it; or 0, which is none, and then the request is
+        /// withdrawn.
         id: u64,
     },
     /// The request is refused on the copy, each of its steps.
@@ -179,8 +180,8 @@ pub fn decide(phase: Phase, seen: Seen) -> Result<Turn, Error> {
     Ok(Turn { phase, act })
 }
 
-/// The id of a request: by the number that its controller drew from the engine when it started, and its count of requests
-/// since, from 0. Two requests with other numbers have other ids, and none is 0.
+/// The id of a request: by the number that its controller drew from the engine when it started, and its count of
+/// requests since, from 0. Two requests with other numbers have other ids, and none is 0.
 pub fn request_id(start: NonZeroU32, count: u32) -> u64 {
     // SAFETY: it takes numbers, any of them, and touches no memory.
     unsafe { raw::cindrolf_request_id(start.get().into(), count.into()) }

@@ -1,4 +1,5 @@
-//! The decisions of a shared log through the boundary: the whole table, worked out by hand, ids, and numbers that name nothing.
+//! The decisions of a shared log through the boundary: the whole table, worked out by hand; ids; and numbers that name
+//! nothing.
 
 use cindrolf::raw;
 use cindrolf::sharing::{Act, Phase, Seen, Turn, decide, request_id};
@@ -67,6 +68,15 @@ fn another_row_is_read_past() {
     let tells = Ok(Turn { phase: Phase::Idle, act: Act::Tell });
     assert_eq!(decide(largest, Seen::Next { known: 0, id: u64::MAX }), tells);
     assert_eq!(decide(largest, Seen::Placed { known: u64::MAX, place: u64::MAX }), tells);
+}
+
+#[test]
+fn without_an_id_nothing_is_sent() {
+    for phase in [Phase::Asked, Phase::Current] {
+        assert_eq!(decide(phase, Seen::Accepted { id: 0 }), Ok(Turn { phase: Phase::Idle, act: Act::Withdraw }));
+        let waiting = Phase::Waiting { id: 1 };
+        assert_eq!(decide(phase, Seen::Accepted { id: 1 }), Ok(Turn { phase: waiting, act: Act::Append }));
+    }
 }
 
 #[test]

@@ -19,9 +19,9 @@ pub enum Change {
 
 impl Change {
     /// The number of its kind in a row.
-    pub fn kind(self) -> u16 {
+    pub fn kind(self) -> u64 {
         match self {
-            Change::Step(_, step) => step.number() as u16,
+            Change::Step(_, step) => step.number(),
             Change::WriteScores(..) => 10,
             Change::SetMark(_) => 11,
             Change::DropMark(_) => 12,
@@ -29,21 +29,21 @@ impl Change {
         }
     }
 
-    /// Its client. A mark has none.
-    pub fn client(self) -> Option<u64> {
+    /// Its client. A mark has none, and 0 in its place.
+    pub fn client(self) -> u64 {
         match self {
-            Change::Step(client, _) | Change::WriteScores(client, _) | Change::SetRights(client, _) => Some(client),
-            Change::SetMark(_) | Change::DropMark(_) => None,
+            Change::Step(client, _) | Change::WriteScores(client, _) | Change::SetRights(client, _) => client,
+            Change::SetMark(_) | Change::DropMark(_) => 0,
         }
     }
 
-    /// Its input as a row has it: a number as eight bytes, scores as two each, a mark's name as it is, with the most
-    /// significant byte first.
+    /// Its input as a row has it: a number as eight bytes with the most significant one first, scores as two each with
+    /// the low one first, a mark's name as it is.
     pub fn input(self) -> Vec<u8> {
         match self {
             Change::Step(_, Step::Write(value)) => value.to_be_bytes().to_vec(),
             Change::Step(..) => vec![],
-            Change::WriteScores(_, scores) => scores.iter().flat_map(|score| score.to_be_bytes()).collect(),
+            Change::WriteScores(_, scores) => scores.iter().flat_map(|score| score.to_le_bytes()).collect(),
             Change::SetMark(name) | Change::DropMark(name) => name.0.to_vec(),
             Change::SetRights(_, word) => word.to_be_bytes().to_vec(),
         }

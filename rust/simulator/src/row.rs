@@ -23,13 +23,10 @@ pub struct Row {
     pub asking: usize,
 }
 
-/// The bytes of a row that its chain value is over.
+/// The bytes of a row that its chain value is over, as docs/SHARING.md has them.
 pub fn encoded(id: u64, index: u32, change: Change) -> Vec<u8> {
-    let mut bytes = id.to_be_bytes().to_vec();
-    bytes.extend(index.to_be_bytes());
-    bytes.extend(change.kind().to_be_bytes());
-    // No step of a client has the kind of a mark, so no row of a client has the bytes of one without.
-    bytes.extend(change.client().unwrap_or(u64::MAX).to_be_bytes());
+    let numbers = [id, index.into(), change.kind(), change.client()];
+    let mut bytes: Vec<u8> = numbers.into_iter().flat_map(u64::to_be_bytes).collect();
     bytes.extend(change.input());
     bytes
 }
@@ -70,17 +67,19 @@ pub fn requests(rows: &[Row]) -> impl Iterator<Item = &[Row]> {
 #[cfg(test)]
 mod tests {
     use super::*;
-    use cindrolf::{MarkName, Step};
+    use cindrolf::Step;
 
-    // As Python's hashlib gives it for the bytes written out by hand.
+    // The example of docs/SHARING.md.
     #[test]
     fn chain_values() {
-        let hex = |chain: Chain| chain.iter().map(|byte| format!("{byte:02x}")).collect::<String>();
-        let first = chained(FIRST_CHAIN, (7 << 32) + 1, 0, Change::Step(3, Step::Write(201)));
-        assert_eq!(hex(first), "5c25406560ff7aab1b3a8edabc42cf70");
-        assert_eq!(
-            hex(chained(first, (7 << 32) + 1, 1, Change::SetMark(MarkName(*b"wash\0\0\0\0")))),
-            "b4a2e388279926d4c63e4061dbac5000"
-        );
+        let hex = |bytes: &[u8]| bytes.iter().map(|byte| format!("{byte:02x}")).collect::<String>();
+        let (write, scores) = (Change::Step(0, Step::Write(201)), Change::WriteScores(1, &[40, 372]));
+        let first = "0000000100000000 0000000000000000 0000000000000008 0000000000000000 00000000000000c9";
+        assert_eq!(hex(&encoded(1 << 32, 0, write)), first.replace(' ', ""));
+        let second = "0000000100000000 0000000000000001 000000000000000a 0000000000000001 2800 7401";
+        assert_eq!(hex(&encoded(1 << 32, 1, scores)), second.replace(' ', ""));
+        let chain = chained(FIRST_CHAIN, 1 << 32, 0, write);
+        assert_eq!(hex(&chain), "ae200b99a32c5bd4fb9a419961ed760c");
+        assert_eq!(hex(&chained(chain, 1 << 32, 1, scores)), "03fbf7df876ad7b4804720974319b0d8");
     }
 }
