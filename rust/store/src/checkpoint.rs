@@ -19,15 +19,15 @@ const EVERY: u64 = 64;
 
 impl Store {
     /// Copies the write-ahead log to the file, and says whether that is all of it: then the file holds every step by
-    /// itself until the next one is stored. A process that reads at the same time may stand in the way. It waits for the
-    /// lock as a step does. Call it when there is nothing to store for a while.
+    /// itself until the next one is stored. A process that reads may stand in the way, and one that holds the lock for
+    /// longer than a tenth of a second. Call it when there is nothing to store for a while, and again where it was not all.
     pub fn checkpoint(&mut self) -> Result<bool, Error> {
         if self.is_read_only() {
             return Err(Error::ReadOnly);
         }
-        self.guarded(|link| {
-            let patience = link.patience;
-            link.copy_to_file(patience)
+        self.guarded(|link| match link.copy_to_file() {
+            Err(error) if error.is_busy() => Ok(false),
+            copied => copied,
         })
     }
 
@@ -46,7 +46,7 @@ impl Store {
         if self.is_read_only() {
             return Ok(());
         }
-        let copied = if link.to_copy { link.copy_to_file(Link::SHORT) } else { Ok(true) };
+        let copied = if link.to_copy { link.copy_to_file() } else { Ok(true) };
         link.copier = None;
         link.database.copy_on_closing()?;
         match copied {
@@ -71,12 +71,12 @@ impl Link {
         let seq = self.copy.seq as u64;
         if self.added > 0 && self.database.pages() >= LONG && seq / EVERY != (seq - self.added) / EVERY {
             // Where it cannot be done it is tried again after as many rows.
-            let _ = self.copy_to_file(Link::SHORT);
+            let _ = self.copy_to_file();
         }
     }
 
     /// Copies the write-ahead log to the file, and says whether that is all of it.
-    pub fn copy_to_file(&mut self, patience: Duration) -> Result<bool, Error> {
+    pub fn copy_to_file(&mut self) -> Result<bool, Error> {
         let Some(beside) = &self.beside else { return Ok(true) };
         if self.copier.is_none() {
             let copier = Database::open_log(&self.database.file(), Mode::Existing, Link::SHORT)?;
@@ -89,7 +89,7 @@ impl Link {
             beside.holds()?;
             self.copier = Some(copier);
         }
-        self.database.set_patience(patience);
+        self.database.set_patience(Link::SHORT);
         let begun = self.begin.execute(&[]);
         self.database.set_patience(self.patience);
         begun?;

@@ -7,6 +7,9 @@ use std::io::ErrorKind;
 use std::os::unix::fs::MetadataExt;
 use std::path::{Path, PathBuf};
 
+/// How long a file is in which there is nothing: a page at most.
+const EMPTY: u64 = 4_096;
+
 /// A file, whatever its name is: its device and its number there.
 #[derive(Clone, Copy, Debug, PartialEq, Eq)]
 pub(crate) struct FileNumber {
@@ -81,6 +84,16 @@ pub(crate) fn leave(database: &Database) {
     if Beside::is_empty(&database.beside()) {
         let _ = database.copy_on_closing();
     }
+}
+
+/// Closes a file in which there is nothing, and says whether nobody else has its write-ahead log open: then SQLite removes
+/// that.
+pub(crate) fn close_empty(database: Database) -> bool {
+    let beside = database.beside();
+    let nothing = std::fs::metadata(database.file()).is_ok_and(|file| file.len() <= EMPTY);
+    let last = nothing && beside.exists() && database.copy_on_closing().is_ok();
+    drop(database);
+    last && !beside.exists()
 }
 
 fn detached(path: &Path) -> Fault {

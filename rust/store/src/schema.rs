@@ -5,8 +5,6 @@ use crate::copy::LogCopy;
 use crate::database::{Database, Value};
 use crate::sqlite;
 use cindrolf::Capacity;
-use std::thread::sleep;
-use std::time::Duration;
 
 /// SQLite's application id of a log's file: `Cind`.
 pub const APPLICATION_ID: i64 = 0x4369_6E64;
@@ -35,10 +33,6 @@ const STATISTICS: [[&str; 4]; 2] = [
     ["table", "sqlite_stat4", "sqlite_stat4", "CREATE TABLE sqlite_stat4(tbl,idx,neq,nlt,ndlt,sample)"],
 ];
 
-/// How often an empty file on which nobody holds a lock is looked at once more, after a millisecond: the process that
-/// creates it may be between two of its steps.
-const LOOKS: u32 = 300;
-
 /// Whether the file has nothing in it, as SQLite leaves one whose creation was not finished.
 pub fn is_empty(database: &Database) -> Result<bool, Error> {
     let id = database.number("PRAGMA application_id")?;
@@ -63,22 +57,21 @@ pub fn create(database: &Database, fresh: &LogCopy, client_count: u64) -> Result
     Ok(())
 }
 
-/// Waits for a creation that is under way. An empty file that nobody works on was left by one that was not finished.
-pub fn finished(database: &Database) -> Result<(), Error> {
-    for _ in 0..LOOKS {
-        if !is_empty(database)? {
-            return Ok(());
-        }
-        // Each of the steps of a creation holds the lock. This waits for it.
-        match database.execute("BEGIN IMMEDIATE") {
-            Ok(()) => database.execute("ROLLBACK")?,
-            Err(fault) if fault.primary() == sqlite::BUSY => return Err(fault.into()),
-            // A file that this account cannot write may be created by another.
-            Err(_) => {}
-        }
-        sleep(Duration::from_millis(1));
+/// Whether there is something in the file once each step of a creation that is under way, and holds the lock, is done.
+pub fn is_filled(database: &Database) -> Result<bool, Error> {
+    if !is_empty(database)? {
+        return Ok(true);
     }
-    Err(Error::Unfinished)
+    match database.execute("BEGIN IMMEDIATE") {
+        Ok(()) => {
+            let empty = is_empty(database);
+            database.execute("ROLLBACK")?;
+            Ok(!empty?)
+        }
+        Err(fault) if fault.primary() == sqlite::BUSY => Err(fault.into()),
+        // A file that this account cannot write may be created by another.
+        Err(_) => Ok(false),
+    }
 }
 
 /// Sees that the file is a log's, of this version.

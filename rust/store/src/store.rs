@@ -17,6 +17,10 @@ use std::time::{Duration, Instant};
 /// How long a call waits for the lock of another process, unless it is told otherwise.
 pub const PATIENCE: Duration = Duration::from_secs(10);
 
+/// How often an empty file is looked at again, after a millisecond: the process that creates it may be between two of its
+/// steps. A look that finds nobody else counts fourfold.
+const LOOKS: u32 = 100;
+
 /// What SQLite does not keep in the file.
 const PRAGMAS: [&str; 3] = ["synchronous = FULL", "trusted_schema = OFF", "cell_size_check = ON"];
 
@@ -302,7 +306,7 @@ impl Store {
             && self.full
         {
             // A write-ahead log that cannot grow is begun again. Where that fails too, the next change tells.
-            let _ = link.copy_to_file(Link::SHORT);
+            let _ = link.copy_to_file();
             self.full = false;
         }
         if self.stale
@@ -423,12 +427,21 @@ fn write_ahead(database: &Database, patience: Duration) -> Result<bool, Error> {
 
 impl Link {
     fn open(path: &Path, file: FileNumber, mode: Mode, patience: Duration) -> Result<Self, Error> {
-        let database = Database::open_log(path, mode, patience)?;
-        if FileNumber::of_open(path, &database)? != file {
-            return Err(Error::Replaced);
+        let mut looks = 0;
+        while looks < LOOKS {
+            let database = Database::open_log(path, mode, patience)?;
+            if FileNumber::of_open(path, &database)? != file {
+                return Err(Error::Replaced);
+            }
+            let filled = schema::is_filled(&database).inspect_err(|_| file::leave(&database))?;
+            if filled {
+                let link = Link::over(database.clone(), file, patience);
+                return link.inspect_err(|_| file::leave(&database));
+            }
+            looks += if file::close_empty(database) { 4 } else { 1 };
+            sleep(Duration::from_millis(1));
         }
-        let link = schema::finished(&database).and_then(|()| Link::over(database.clone(), file, patience));
-        link.inspect_err(|_| file::leave(&database))
+        Err(Error::Unfinished)
     }
 
     fn over(database: Database, file: FileNumber, patience: Duration) -> Result<Self, Error> {

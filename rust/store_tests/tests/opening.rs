@@ -4,7 +4,8 @@ use cindrolf::{Capacity, value_of};
 use std::fs;
 use std::path::{Path, PathBuf};
 use std::process::Command;
-use store::{Error, Store};
+use store::database::{Database, Mode};
+use store::{Error, PATIENCE, Store};
 use store_tests::kernel::failing_read;
 use store_tests::kinds::{changes, prepared};
 use store_tests::scratch::{Scratch, as_a_user};
@@ -81,6 +82,12 @@ fn a_checkpoint() {
     assert_eq!(alone(&file).len(), 10);
     store.write(0, 10).unwrap();
     assert_eq!(alone(&file).len(), 10);
+    // It does not wait for long.
+    let other = Database::open(&file, Mode::Existing, PATIENCE).unwrap();
+    other.execute("BEGIN IMMEDIATE").unwrap();
+    assert_eq!(store.checkpoint(), Ok(false));
+    other.execute("ROLLBACK").unwrap();
+    assert_eq!(store.checkpoint(), Ok(true));
     // A copy has no write-ahead log until a step is taken on it.
     store.copy_to(room.file("copy.db")).unwrap();
     let mut copy = Store::open(room.file("copy.db")).unwrap();

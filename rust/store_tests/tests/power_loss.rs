@@ -167,14 +167,14 @@ impl Failures {
             std::fs::write(folder.join(name.file_name().unwrap()), bytes).unwrap();
         }
         let file = folder.join("run.db");
-        let last = match Store::open(&file) {
-            Ok(store) => store.last_row().unwrap(),
-            Err(Error::Missing | Error::Unfinished) if told == 0 => {
-                let made = Store::create(&file, 2, Capacity::Large);
-                return made.map(drop).map_err(|error| format!("it cannot be created: {error}"));
+        // Who is told nothing creates the log again, which makes it or finds it whole.
+        if told == 0 {
+            match Store::create(&file, 2, Capacity::Large) {
+                Err(Error::Exists) => {}
+                made => return made.map(drop).map_err(|error| format!("it cannot be created: {error}")),
             }
-            Err(error) => return Err(error.to_string()),
-        };
+        }
+        let last = Store::open(&file).map_err(|error| error.to_string())?.last_row().unwrap();
         self.hold(last, told)
     }
 
