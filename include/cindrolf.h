@@ -38,12 +38,24 @@ uint64_t cindrolf_version(void);
 #define CINDROLF_ENTRY_WORDS 4096
 #define CINDROLF_SMALL_ENTRY_WORDS 512
 
-/* The length of the marks buffer, in words, and the most marks that it keeps. */
+/* The length of the marks buffer, in words. */
 #define CINDROLF_MARK_WORDS 64
-#define CINDROLF_MARKS_LIMIT 32
 
 /* The length of the rights buffer, in words: one for each client that a log can have. */
 #define CINDROLF_RIGHTS_WORDS 16
+
+/* The fewest bytes of a text buffer; every sentence fits them. */
+#define CINDROLF_TEXT_BYTES 96
+
+/* The limits. Each is the most that is taken, and is itself within: clients of a log, a value, scores of one write, a score, marks of a marks
+ * buffer, words of a window, and words that are rearranged at once. */
+#define CINDROLF_CLIENT_LIMIT UINT64_C(16)
+#define CINDROLF_VALUE_LIMIT ((UINT64_C(1) << 52) - 1)
+#define CINDROLF_SCORES_LIMIT 4000
+#define CINDROLF_SCORE_LIMIT 372
+#define CINDROLF_MARKS_LIMIT 32
+#define CINDROLF_WINDOW_LIMIT 256
+#define CINDROLF_REARRANGE_LIMIT 4096
 
 /* The rights in a client's word: one for each kind of step, in the order of the steps' numbers below. Either write needs
  * CINDROLF_RIGHT_WRITE. */
@@ -58,19 +70,6 @@ uint64_t cindrolf_version(void);
 #define CINDROLF_RIGHT_WRITE (UINT64_C(1) << 55)
 #define CINDROLF_RIGHT_CLOSE_OWN (UINT64_C(1) << 54)
 #define CINDROLF_ALL_RIGHTS UINT64_C(0xFFC0000000000000)
-
-/* The most scores that one write takes, and the highest score. */
-#define CINDROLF_SCORES_LIMIT 4000
-#define CINDROLF_HIGHEST_SCORE 372
-
-/* The most words of a window. */
-#define CINDROLF_LONGEST_WINDOW 256
-
-/* The most words that are rearranged at once. */
-#define CINDROLF_REARRANGE_LIMIT 4096
-
-/* The fewest bytes of a text buffer; every sentence fits them. */
-#define CINDROLF_TEXT_BYTES 96
 
 /* The stage of a client in a well-formed log, 0 to 6: waiting, fetching, closing the last ledger, creating, appending, writing, finishing. */
 #define CINDROLF_STAGE(state, client) ((state)[1 + (client)] >> 60 & 7)

@@ -159,9 +159,9 @@ static void check_scores(void) {
     write_and_read("score 0", 2, 1, UINT64_C(1000000000000));
     scores[0] = 40;
     write_and_read("score 40", 3, 1, UINT64_C(100000000000));
-    scores[0] = CINDROLF_HIGHEST_SCORE;
+    scores[0] = CINDROLF_SCORE_LIMIT;
     write_and_read("the highest score", 4, 1, 501);
-    scores[CINDROLF_SCORES_LIMIT - 1] = CINDROLF_HIGHEST_SCORE + 1;
+    scores[CINDROLF_SCORES_LIMIT - 1] = CINDROLF_SCORE_LIMIT + 1;
     expect("a score too high", write_scores(scores, CINDROLF_SCORES_LIMIT), CINDROLF_REFUSED + CINDROLF_REFUSAL_SCORE_TOO_HIGH);
     expect("no scores by client 2", write_scores_by(2, NULL, 0), CINDROLF_REFUSED + CINDROLF_REFUSAL_UNKNOWN_CLIENT);
     expect("no scores by client 1", write_scores_by(1, NULL, 0), CINDROLF_REFUSED + CINDROLF_REFUSAL_SCORE_COUNT);
@@ -169,8 +169,8 @@ static void check_scores(void) {
     expect("the entry after the refusals", entries[5], 0);
     for (size_t i = 1; i < CINDROLF_SCORES_LIMIT - 1; i++)
         expect("a score after the writes", scores[i], 0);
-    expect("the first score", scores[0], CINDROLF_HIGHEST_SCORE);
-    expect("the last score", scores[CINDROLF_SCORES_LIMIT - 1], CINDROLF_HIGHEST_SCORE + 1);
+    expect("the first score", scores[0], CINDROLF_SCORE_LIMIT);
+    expect("the last score", scores[CINDROLF_SCORES_LIMIT - 1], CINDROLF_SCORE_LIMIT + 1);
 }
 
 /* The number of each step that is advised, to client 0, which is named, and to client 1; client 2 is unknown. */
@@ -252,9 +252,9 @@ static void check_windows(void) {
     check_window(5, UINT64_C(4001100000000507), 1, 0);
     check_window(5, UINT64_C(4001100000000508), 0, 0);
     check_window(6, 0, 0, 0);
-    check_window(CINDROLF_LONGEST_WINDOW, 0, 0, 0);
+    check_window(CINDROLF_WINDOW_LIMIT, 0, 0, 0);
     struct cindrolf_window_found given =
-        cindrolf_first_window(state, CINDROLF_STATE_WORDS, entries, CINDROLF_ENTRY_WORDS, CINDROLF_LONGEST_WINDOW + 1, 0);
+        cindrolf_first_window(state, CINDROLF_STATE_WORDS, entries, CINDROLF_ENTRY_WORDS, CINDROLF_WINDOW_LIMIT + 1, 0);
     expect("a window of 257", given.answer, CINDROLF_REFUSED + CINDROLF_REFUSAL_WINDOW_LENGTH);
     expect("whether one is found", given.found, 0);
     expect("its start", given.start, 0);
@@ -604,7 +604,7 @@ static void check_order_of_rights(void) {
     expect("no rights, a wide value", write_with(0, UINT64_MAX), MISSING_RIGHT);
     expect("no rights, no scores", write_scores_with(0, NULL, 0), CINDROLF_REFUSED + CINDROLF_REFUSAL_SCORE_COUNT);
     expect("no rights, a score", write_scores_with(0, scores, 1), MISSING_RIGHT);
-    scores[0] = CINDROLF_HIGHEST_SCORE + 1;
+    scores[0] = CINDROLF_SCORE_LIMIT + 1;
     expect("no rights, a high score", write_scores_with(0, scores, 1), CINDROLF_REFUSED + CINDROLF_REFUSAL_SCORE_TOO_HIGH);
     scores[0] = 0;
     rights[0] = CINDROLF_ALL_RIGHTS & ~CINDROLF_RIGHT_WRITE;

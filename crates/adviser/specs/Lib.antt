@@ -1,1 +1,1 @@
-pub mod Advised
+pub mod AdviserLaws

@@ -25,14 +25,14 @@ fn stage_advice(stage: Stage, fenced: bool) -> Advice
     }
 }
 
-pub fn client_advice(named: bool, k: Client, fenced: bool) -> Advice
-    ensures { λ r. ⌜ r ≡ clientAdvice named k fenced ⌝ }
+pub fn client_advice(named: bool, client: Client, fenced: bool) -> Advice
+    ensures { λ r. ⌜ r ≡ clientAdvice named client fenced ⌝ }
 {
     if named {
-        let stage = k.stage;
+        let stage = client.stage;
         return stage_advice(stage, fenced);
     }
-    if k.leads {
+    if client.leads {
         Advice::Abdicate
     } else {
         Advice::NoStep

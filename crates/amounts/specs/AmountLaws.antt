@@ -7,7 +7,7 @@ use lib.ListN.{length, length-append}
 use Rattle.text.specs.Bytes.{bytes}
 use Rattle.text.specs.Decimal.{decimal}
 use Rattle.text.specs.DecimalLaws.{decimal-length}
-use Rattle.text.specs.Digits.{one-length}
+use Rattle.text.specs.DigitLaws.{one-length}
 use Rattle.text.specs.Puts.{Puts}
 use Rattle.amounts.specs.Amounts.{padded, pointed, fixed}
 use Rattle.amounts.specs.Rounding.{rounded, rounded-small}

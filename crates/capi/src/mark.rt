@@ -37,7 +37,8 @@ pub extern "C" fn cindrolf_mark_read(
     name: u64,
     output: &mut [u64],
 ) -> ChainCount
-    ensures { λ r. ⌜ ReadMarkCall name (buffers (now (state .entry)) (now (entries .entry))) (now (marks .entry)) (now (output .entry)) (r .answer) (r .count) (now (output .exit)) ⌝ }
+    ensures { λ r. ⌜ ReadMarkCall name (buffers (now (state .entry)) (now (entries .entry))) (now (marks .entry))
+        (now (output .entry)) (r .answer) (r .count) (now (output .exit)) ⌝ }
 {
     let a = marks::read::read_mark(state, entries, marks, name, output);
     crate::reading::chain_count(a)

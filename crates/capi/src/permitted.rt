@@ -6,10 +6,11 @@ ghost use Rattle.chain.specs.Steps.{by};
 ghost use Rattle.dispatch.specs.Dispatch.{stepOf};
 ghost use Rattle.capi.specs.Calls.{StepCall};
 
-pub fn take(state: &mut [u64], entries: &mut [u64], rights: &[u64], step: Step) -> u64
-    ensures { λ r. ⌜ StepCall (stepOf (now (rights .entry)) step) (buffers (now (state .entry)) (now (entries .entry))) r (now (state .exit)) (now (entries .exit)) ⌝ }
+pub fn take_numbered(state: &mut [u64], entries: &mut [u64], rights: &[u64], step: Step) -> u64
+    ensures { λ r. ⌜ StepCall (stepOf (now (rights .entry)) step)
+        (buffers (now (state .entry)) (now (entries .entry))) r (now (state .exit)) (now (entries .exit)) ⌝ }
 {
-    let a = dispatch::take_step(state, entries, rights, step);
+    let a = dispatch::check_and_take(state, entries, rights, step);
     crate::number::answer_number(a)
 }
 
@@ -20,7 +21,8 @@ pub fn take_scores(
     client: u64,
     scores: &[u16],
 ) -> u64
-    ensures { λ r. ⌜ StepCall (by (now (rights .entry)) client (kinds.write (kinds.ofScores (now (scores .entry))))) (buffers (now (state .entry)) (now (entries .entry))) r (now (state .exit)) (now (entries .exit)) ⌝ }
+    ensures { λ r. ⌜ StepCall (by (now (rights .entry)) client (kinds.write (kinds.ofScores (now (scores .entry)))))
+        (buffers (now (state .entry)) (now (entries .entry))) r (now (state .exit)) (now (entries .exit)) ⌝ }
 {
     let a = dispatch::write_scores::write_scores(state, entries, rights, client, scores);
     crate::number::answer_number(a)
@@ -33,9 +35,10 @@ pub extern "C" fn cindrolf_name_with(
     rights: &[u64],
     client: u64,
 ) -> u64
-    ensures { λ r. ⌜ StepCall (by (now (rights .entry)) client kinds.name) (buffers (now (state .entry)) (now (entries .entry))) r (now (state .exit)) (now (entries .exit)) ⌝ }
+    ensures { λ r. ⌜ StepCall (by (now (rights .entry)) client kinds.name)
+        (buffers (now (state .entry)) (now (entries .entry))) r (now (state .exit)) (now (entries .exit)) ⌝ }
 {
-    take(state, entries, rights, Step::Name(client))
+    take_numbered(state, entries, rights, Step::Name(client))
 }
 
 #[no_mangle]
@@ -45,9 +48,10 @@ pub extern "C" fn cindrolf_become_with(
     rights: &[u64],
     client: u64,
 ) -> u64
-    ensures { λ r. ⌜ StepCall (by (now (rights .entry)) client kinds.become) (buffers (now (state .entry)) (now (entries .entry))) r (now (state .exit)) (now (entries .exit)) ⌝ }
+    ensures { λ r. ⌜ StepCall (by (now (rights .entry)) client kinds.become)
+        (buffers (now (state .entry)) (now (entries .entry))) r (now (state .exit)) (now (entries .exit)) ⌝ }
 {
-    take(state, entries, rights, Step::Become(client))
+    take_numbered(state, entries, rights, Step::Become(client))
 }
 
 #[no_mangle]
@@ -57,9 +61,10 @@ pub extern "C" fn cindrolf_abdicate_with(
     rights: &[u64],
     client: u64,
 ) -> u64
-    ensures { λ r. ⌜ StepCall (by (now (rights .entry)) client kinds.abdicate) (buffers (now (state .entry)) (now (entries .entry))) r (now (state .exit)) (now (entries .exit)) ⌝ }
+    ensures { λ r. ⌜ StepCall (by (now (rights .entry)) client kinds.abdicate)
+        (buffers (now (state .entry)) (now (entries .entry))) r (now (state .exit)) (now (entries .exit)) ⌝ }
 {
-    take(state, entries, rights, Step::Abdicate(client))
+    take_numbered(state, entries, rights, Step::Abdicate(client))
 }
 
 #[no_mangle]
@@ -69,9 +74,10 @@ pub extern "C" fn cindrolf_fetch_with(
     rights: &[u64],
     client: u64,
 ) -> u64
-    ensures { λ r. ⌜ StepCall (by (now (rights .entry)) client kinds.fetch) (buffers (now (state .entry)) (now (entries .entry))) r (now (state .exit)) (now (entries .exit)) ⌝ }
+    ensures { λ r. ⌜ StepCall (by (now (rights .entry)) client kinds.fetch)
+        (buffers (now (state .entry)) (now (entries .entry))) r (now (state .exit)) (now (entries .exit)) ⌝ }
 {
-    take(state, entries, rights, Step::Fetch(client))
+    take_numbered(state, entries, rights, Step::Fetch(client))
 }
 
 #[no_mangle]
@@ -81,9 +87,10 @@ pub extern "C" fn cindrolf_close_last_with(
     rights: &[u64],
     client: u64,
 ) -> u64
-    ensures { λ r. ⌜ StepCall (by (now (rights .entry)) client kinds.closeLast) (buffers (now (state .entry)) (now (entries .entry))) r (now (state .exit)) (now (entries .exit)) ⌝ }
+    ensures { λ r. ⌜ StepCall (by (now (rights .entry)) client kinds.closeLast)
+        (buffers (now (state .entry)) (now (entries .entry))) r (now (state .exit)) (now (entries .exit)) ⌝ }
 {
-    take(state, entries, rights, Step::CloseLast(client))
+    take_numbered(state, entries, rights, Step::CloseLast(client))
 }
 
 #[no_mangle]
@@ -93,9 +100,10 @@ pub extern "C" fn cindrolf_finish_with(
     rights: &[u64],
     client: u64,
 ) -> u64
-    ensures { λ r. ⌜ StepCall (by (now (rights .entry)) client kinds.finish) (buffers (now (state .entry)) (now (entries .entry))) r (now (state .exit)) (now (entries .exit)) ⌝ }
+    ensures { λ r. ⌜ StepCall (by (now (rights .entry)) client kinds.finish)
+        (buffers (now (state .entry)) (now (entries .entry))) r (now (state .exit)) (now (entries .exit)) ⌝ }
 {
-    take(state, entries, rights, Step::Finish(client))
+    take_numbered(state, entries, rights, Step::Finish(client))
 }
 
 #[no_mangle]
@@ -105,9 +113,10 @@ pub extern "C" fn cindrolf_create_with(
     rights: &[u64],
     client: u64,
 ) -> u64
-    ensures { λ r. ⌜ StepCall (by (now (rights .entry)) client kinds.create) (buffers (now (state .entry)) (now (entries .entry))) r (now (state .exit)) (now (entries .exit)) ⌝ }
+    ensures { λ r. ⌜ StepCall (by (now (rights .entry)) client kinds.create)
+        (buffers (now (state .entry)) (now (entries .entry))) r (now (state .exit)) (now (entries .exit)) ⌝ }
 {
-    take(state, entries, rights, Step::Create(client))
+    take_numbered(state, entries, rights, Step::Create(client))
 }
 
 #[no_mangle]
@@ -117,9 +126,10 @@ pub extern "C" fn cindrolf_append_with(
     rights: &[u64],
     client: u64,
 ) -> u64
-    ensures { λ r. ⌜ StepCall (by (now (rights .entry)) client kinds.append) (buffers (now (state .entry)) (now (entries .entry))) r (now (state .exit)) (now (entries .exit)) ⌝ }
+    ensures { λ r. ⌜ StepCall (by (now (rights .entry)) client kinds.append)
+        (buffers (now (state .entry)) (now (entries .entry))) r (now (state .exit)) (now (entries .exit)) ⌝ }
 {
-    take(state, entries, rights, Step::Append(client))
+    take_numbered(state, entries, rights, Step::Append(client))
 }
 
 #[no_mangle]
@@ -130,9 +140,10 @@ pub extern "C" fn cindrolf_write_with(
     client: u64,
     value: u64,
 ) -> u64
-    ensures { λ r. ⌜ StepCall (by (now (rights .entry)) client (kinds.write (kinds.ofValue value))) (buffers (now (state .entry)) (now (entries .entry))) r (now (state .exit)) (now (entries .exit)) ⌝ }
+    ensures { λ r. ⌜ StepCall (by (now (rights .entry)) client (kinds.write (kinds.ofValue value)))
+        (buffers (now (state .entry)) (now (entries .entry))) r (now (state .exit)) (now (entries .exit)) ⌝ }
 {
-    take(state, entries, rights, Step::Write(client, value))
+    take_numbered(state, entries, rights, Step::Write(client, value))
 }
 
 #[no_mangle]
@@ -143,7 +154,8 @@ pub extern "C" fn cindrolf_write_scores_with(
     client: u64,
     scores: &[u16],
 ) -> u64
-    ensures { λ r. ⌜ StepCall (by (now (rights .entry)) client (kinds.write (kinds.ofScores (now (scores .entry))))) (buffers (now (state .entry)) (now (entries .entry))) r (now (state .exit)) (now (entries .exit)) ⌝ }
+    ensures { λ r. ⌜ StepCall (by (now (rights .entry)) client (kinds.write (kinds.ofScores (now (scores .entry)))))
+        (buffers (now (state .entry)) (now (entries .entry))) r (now (state .exit)) (now (entries .exit)) ⌝ }
 {
     take_scores(state, entries, rights, client, scores)
 }
@@ -155,7 +167,8 @@ pub extern "C" fn cindrolf_close_own_with(
     rights: &[u64],
     client: u64,
 ) -> u64
-    ensures { λ r. ⌜ StepCall (by (now (rights .entry)) client kinds.closeOwn) (buffers (now (state .entry)) (now (entries .entry))) r (now (state .exit)) (now (entries .exit)) ⌝ }
+    ensures { λ r. ⌜ StepCall (by (now (rights .entry)) client kinds.closeOwn)
+        (buffers (now (state .entry)) (now (entries .entry))) r (now (state .exit)) (now (entries .exit)) ⌝ }
 {
-    take(state, entries, rights, Step::CloseOwn(client))
+    take_numbered(state, entries, rights, Step::CloseOwn(client))
 }

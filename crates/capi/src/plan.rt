@@ -18,7 +18,8 @@ pub extern "C" fn cindrolf_run_plan(
     plan: &[u64],
     budget: u64,
 ) -> u64
-    ensures { λ r. ⌜ RunResult (now (rights .entry)) (now (plan .entry)) budget (buffers (now (state .entry)) (now (entries .entry))) r (now (state .exit)) (now (entries .exit)) ⌝ }
+    ensures { λ r. ⌜ RunResult (now (rights .entry)) (now (plan .entry)) budget
+        (buffers (now (state .entry)) (now (entries .entry))) r (now (state .exit)) (now (entries .exit)) ⌝ }
 {
     plans::run::run_plan(state, entries, rights, plan, budget)
 }
@@ -31,7 +32,8 @@ pub extern "C" fn cindrolf_forecast(
     plan: &[u64],
     budget: u64,
 ) -> PlanCounts
-    ensures { λ r. ⌜ ForecastCall (now (rights .entry)) (now (plan .entry)) budget (buffers (now (state .entry)) (now (entries .entry))) (r .entries) (r .ledgers) (r .refusals) ⌝ }
+    ensures { λ r. ⌜ ForecastCall (now (rights .entry)) (now (plan .entry)) budget
+        (buffers (now (state .entry)) (now (entries .entry))) (r .entries) (r .ledgers) (r .refusals) ⌝ }
 {
     let counts = plans::forecast::forecast_plan(state, entries, rights, plan, budget);
     PlanCounts {

@@ -57,7 +57,8 @@ pub extern "C" fn cindrolf_read_chain(
     entries: &[u64],
     output: &mut [u64],
 ) -> ChainCount
-    ensures { λ r. ⌜ ChainCall (buffers (now (state .entry)) (now (entries .entry))) (now (output .entry)) (r .answer) (r .count) (now (output .exit)) ⌝ }
+    ensures { λ r. ⌜ ChainCall (buffers (now (state .entry)) (now (entries .entry))) (now (output .entry)) (r .answer)
+        (r .count) (now (output .exit)) ⌝ }
 {
     let a = readers::read_chain::read_chain(state, entries, output);
     chain_count(a)

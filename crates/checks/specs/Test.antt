@@ -11,9 +11,9 @@ use Rattle.fields.specs.Bit.{bit}
 -- `every f ws` tests each word of ws, by its index, the word before it (0 before the first) and the word.
 pub data Test : Type 0 where
   flag : Bool → Test
-  same differ less most : ℕ → ℕ → Test
+  same differ less atMost : ℕ → ℕ → Test
   both either implies : Test → Test → Test
-  lacks : Test → Test
+  isNot : Test → Test
   every : (ℕ → ℕ → ℕ → Test) → List ℕ → Test
 
 -- One pass over the words: looking each up by its index would make the test quadratic to compute.
@@ -26,11 +26,11 @@ test (flag b) = b
 test (same a b) = eqb a b
 test (differ a b) = not (eqb a b)
 test (less a b) = ltb a b
-test (most a b) = leb a b
+test (atMost a b) = leb a b
 test (both t u) = test t && test u
 test (either t u) = test t || test u
 test (implies t u) = cond (test t) (test u) true
-test (lacks t) = not (test t)
+test (isNot t) = not (test t)
 test (every f ws) = everyFrom (λ i before w. test (f i before w)) 0 0 ws
 
 -- What it says that a test is true, and that it is false.
@@ -43,16 +43,16 @@ Says (differ a b) true = a ≡ b → ⊥
 Says (differ a b) false = a ≡ b
 Says (less a b) true = a < b
 Says (less a b) false = b ≤ a
-Says (most a b) true = a ≤ b
-Says (most a b) false = b < a
+Says (atMost a b) true = a ≤ b
+Says (atMost a b) false = b < a
 Says (both t u) true = Says t true × Says u true
 Says (both t u) false = Says t true → Says u false
 Says (either t u) true = Says t true ⊎ Says u true
 Says (either t u) false = Says t false × Says u false
 Says (implies t u) true = Says t true → Says u true
 Says (implies t u) false = Says t true × Says u false
-Says (lacks t) true = Says t false
-Says (lacks t) false = Says t true
+Says (isNot t) true = Says t false
+Says (isNot t) false = Says t true
 Says (every f ws) true = (i : ℕ) → i < length ws → Says (f i (getD (0 ∷ ws) i 0) (getD ws i 0)) true
 Says (every f ws) false = ((i : ℕ) → i < length ws → Says (f i (getD (0 ∷ ws) i 0) (getD ws i 0)) true) → ⊥
 

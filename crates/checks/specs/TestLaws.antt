@@ -9,7 +9,7 @@ use lib.ListN.{length, getD}
 use lib.Dec.{ltb, leb, eqb}
 use borrow.Author.Tests.{eqb-true, eqb-false, leb-true, leb-false, ltb-true, ltb-false}
 use Rattle.fields.specs.Bit.{bit}
-use Rattle.checks.specs.Test.{Test, flag, same, differ, less, most, both, either, implies, lacks, every, everyFrom, test, Holds, Fails}
+use Rattle.checks.specs.Test.{Test, flag, same, differ, less, atMost, both, either, implies, isNot, every, everyFrom, test, Holds, Fails}
 
 pub by-bool {ℓ} : {P : Type ℓ} (b : Bool) → (b ≡ true → P) → (b ≡ false → P) → P
 by-bool true f g = f refl
@@ -25,11 +25,11 @@ clash (flag b) h f = omega arith
 clash (same a b) h f = f h
 clash (differ a b) h f = h f
 clash (less a b) h f = omega arith
-clash (most a b) h f = omega arith
+clash (atMost a b) h f = omega arith
 clash (both t u) h f = clash u (h .1) (f (h .0))
 clash (either t u) h f = ⊎-elim (λ k. clash t k (f .0)) (λ k. clash u k (f .1)) h
 clash (implies t u) h f = clash u (h (f .0)) (f .1)
-clash (lacks t) h f = clash t f h
+clash (isNot t) h f = clash t f h
 clash (every f ws) h g = g h
 
 -- The pass over words from index i on, with the word before them.
@@ -65,7 +65,7 @@ decided (flag b) = by-bool b (λ e. holds e (ap bit e)) (λ e. fails e (ap bit e
 decided (same a b) = by-bool (eqb a b) (λ e. holds e (eqb-true a b e)) (λ e. fails e (eqb-false a b e))
 decided (differ a b) = by-bool (eqb a b) (λ e. fails (rw e) (eqb-true a b e)) (λ e. holds (rw e) (eqb-false a b e))
 decided (less a b) = by-bool (ltb a b) (λ e. holds e (ltb-true a b e)) (λ e. fails e (ltb-false a b e))
-decided (most a b) = by-bool (leb a b) (λ e. holds e (leb-true a b e)) (λ e. fails e (leb-false a b e))
+decided (atMost a b) = by-bool (leb a b) (λ e. holds e (leb-true a b e)) (λ e. fails e (leb-false a b e))
 decided (both t u) = two (decided t) (decided u)
   where
     two : Decided t → Decided u → Decided (both t u)
@@ -84,9 +84,9 @@ decided (implies t u) = two (decided t) (decided u)
     two (holds e h) (holds q k) = holds (rw (e, q)) (λ _. k)
     two (holds e h) (fails q k) = fails (rw (e, q)) (h, k)
     two (fails e h) _ = holds (rw e) (λ k. absurd (clash t k h))
-decided (lacks t) = one (decided t)
+decided (isNot t) = one (decided t)
   where
-    one : Decided t → Decided (lacks t)
+    one : Decided t → Decided (isNot t)
     one (holds e h) = fails (rw e) h
     one (fails e h) = holds (rw e) h
 decided (every f ws) = many (pass f (λ i b w. decided (f i b w)) 0 0 ws)

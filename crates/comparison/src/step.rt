@@ -4,16 +4,17 @@ use crate::buffers::Entries;
 use crate::buffers::State;
 use crate::difference::ANSWER;
 use crate::difference::HISTORIES;
-use crate::difference::STEP;
 use crate::difference::STEPS;
 use crate::difference::expect;
 use chain::answer::Answer;
+use model::memory::COUNTS;
+use model::memory::Model;
+use model::memory::STEP;
+use model::memory::add;
+use model::memory::put;
 use model::source::DONE;
 use model::source::REFUSED;
 use model::source::View;
-use model::variables::Model;
-use model::variables::add;
-use model::variables::put;
 
 // A step by the number that the model has for it, with its client and value.
 pub struct Asked {
@@ -56,7 +57,7 @@ pub fn follow(
     answer: Answer,
 ) -> Said {
     add(model, STEP, 0, 1);
-    add(model, STEPS, 0, 1);
+    add(model, COUNTS, STEPS, 1);
     let said = take(model, asked);
     let same = crate::answer::same_answer(said, crate::answer::numbers_of(answer));
     expect(model, same, ANSWER, asked.client);
@@ -66,7 +67,7 @@ pub fn follow(
 
 // A fresh log, and what fresh answered, beside the first state of LedgerChaining.
 pub fn begin(model: &mut Model, state: &State, entries: &Entries, clients: u64, answer: Answer) {
-    add(model, HISTORIES, 0, 1);
+    add(model, COUNTS, HISTORIES, 1);
     put(model, STEP, 0, 0);
     model::variables::init(model, clients);
     let said = crate::answer::numbers_of(answer);

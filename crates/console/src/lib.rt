@@ -1,6 +1,6 @@
 // A session's input read on a file descriptor, and what is printed of it written to standard output.
 use libc::STDOUT_FILENO;
-use requests::start::INPUT_LIMIT;
+use limits::INPUT_LIMIT;
 use text::lent::Printed;
 
 // What is printed: the transcript of the session, or its run total.

@@ -1,3 +1,3 @@
 pub mod Dispatch
 pub mod Results
-pub mod Summing
+pub mod SummingLaws

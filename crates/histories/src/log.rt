@@ -25,5 +25,5 @@ fn step_of(asked: Asked) -> Step {
 pub fn take(state: &mut State, entries: &mut Entries, asked: Asked) -> Answer {
     let mut rights = [0u64; rights::LENGTH];
     rights::all::grant_all_of(state, &mut rights);
-    dispatch::take_step(state, entries, &rights, step_of(asked))
+    dispatch::check_and_take(state, entries, &rights, step_of(asked))
 }

@@ -8,8 +8,8 @@ use lib.ListN.{length, getD, take, drop, set, length-append, length-drop, take-a
 use lib.Seq.{length-take-le, take-suc, take-at, drop-cons, set-at, take-all, getD-append-add, getD-drop}
 use Rattle.chain.specs.Marks.{marksLength}
 
-unfoldable pub closed : List ℕ → ℕ → List ℕ
-closed ms from = take from ms ++ (drop (from + 2) ms ++ (0 ∷ 0 ∷ []))
+unfoldable pub gapClosed : List ℕ → ℕ → List ℕ
+gapClosed ms from = take from ms ++ (drop (from + 2) ms ++ (0 ∷ 0 ∷ []))
 
 module _ (ms : List ℕ) (from : ℕ) (long : length ms ≡ marksLength) (within : from + 2 ≤ marksLength) where
   abbrev final : List ℕ
@@ -75,8 +75,8 @@ module _ (ms : List ℕ) (from : ℕ) (long : length ms ≡ marksLength) (within
       ∙ ap (λ (n : ℕ). getD ((take from ms ++ drop (from + 2) ms) ++ (0 ∷ 0 ∷ [])) n 0) k
       ∙ getD-append-add (take from ms ++ drop (from + 2) ms) (0 ∷ 0 ∷ []) j 0
 
-  pub moved-end : (i : ℕ) (now : List ℕ) → i ≡ 62 → Moved i now → set (set now 62 0) 63 0 ≡ closed ms from
-  unfolding closed
+  pub moved-end : (i : ℕ) (now : List ℕ) → i ≡ 62 → Moved i now → set (set now 62 0) 63 0 ≡ gapClosed ms from
+  unfolding gapClosed
   moved-end i now q w =
       let first : Moved 63 (set now 62 0) = stored 62 0 now (omega arith) (rw q at w) (final-zero 0 (omega arith)) in
       stored 63 0 (set now 62 0) (omega arith) first (final-zero 1 (omega arith))

@@ -1,7 +1,7 @@
 pub mod Pairs
 pub mod Gap
-pub mod Form
-pub mod Placed
-pub mod MarksVerdict
-pub mod Decided
-pub mod Outcome
+pub mod FormLaws
+pub mod PlacedLaws
+pub mod MarksVerdictLaws
+pub mod DecidedLaws
+pub mod OutcomeLaws

@@ -7,13 +7,13 @@ ghost use Prim.Native.Nat.{_+_, _≤_};
 ghost use lib.ListN.{length};
 ghost use Rattle.chain.specs.Operations.{buffers};
 ghost use Rattle.chain.specs.Marks.{marksLength, dropAnswer, afterDrop};
-ghost use Rattle.marks.specs.Gap.{closed};
+ghost use Rattle.marks.specs.Gap.{gapClosed};
 
 // Two words less from one on, and two zero words at the end.
 fn close_gap(marks: &mut [u64], from: usize)
     requires long { ⌜ length (now marks) ≡ marksLength ⌝ }
     requires within { ⌜ from + 2 ≤ marksLength ⌝ }
-    ensures { λ r. ⌜ now (marks .exit) ≡ closed (now (marks .entry)) from ⌝ }
+    ensures { λ r. ⌜ now (marks .exit) ≡ gapClosed (now (marks .entry)) from ⌝ }
 {
     let mut i = from;
     while i < LENGTH - 2 {

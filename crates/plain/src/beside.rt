@@ -1,9 +1,10 @@
-// One step on the log, by the function of that step and a client that has all rights, and then on the model, with the answers and every word of both buffers compared.
+// One step on the log, by the function of that step and a client that has all rights, and then on the model, with the answers and every word of
+// both buffers compared.
 use chain::answer::Answer;
 use comparison::buffers::Entries;
 use comparison::buffers::State;
 use comparison::step::Asked;
-use model::variables::Model;
+use model::memory::Model;
 
 fn take_on_log(state: &mut State, entries: &mut Entries, rights: &[u64], asked: Asked) -> Answer {
     let step = asked.step;

@@ -16,7 +16,7 @@ use model::answer::BECOME;
 use model::answer::CLOSE_OWN;
 use model::answer::CREATE;
 use model::answer::NAME;
-use model::variables::Model;
+use model::memory::Model;
 ghost use Prim.Native.Nat.{_≤_};
 ghost use lib.ListN.{length};
 

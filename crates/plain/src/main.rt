@@ -8,7 +8,7 @@ mod scores;
 mod script;
 
 fn main() {
-    let mut model = [0u64; 18828];
+    let mut model = [0u64; model::memory::SIZE];
     let mut state = [0u64; 527];
     let mut entries = [0u64; 4096];
     examples::session(&mut model, &mut state, &mut entries);

@@ -16,7 +16,7 @@ use model::answer::CREATE;
 use model::answer::FETCH;
 use model::answer::FINISH;
 use model::answer::NAME;
-use model::variables::Model;
+use model::memory::Model;
 
 // The session up to its line 9: client 1 has fenced ledger 1 and not closed it.
 fn fenced(model: &mut Model, state: &mut State, entries: &mut Entries) {

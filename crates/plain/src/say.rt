@@ -3,8 +3,10 @@ use chain::answer::Answer;
 use comparison::difference::DIFFERENCE;
 use comparison::difference::NOTHING;
 use libc::STDOUT_FILENO;
-use model::variables::Model;
-use model::variables::at;
+use model::memory::COUNTS;
+use model::memory::FOUND;
+use model::memory::Model;
+use model::memory::at;
 
 pub fn say(bytes: &[u8]) {
     io::write_all(STDOUT_FILENO, bytes);
@@ -52,18 +54,18 @@ pub fn say_number_line(label: &[u8], n: u64) {
 pub fn say_difference(model: &Model) {
     say_number_line(
         b"beside the model ",
-        at(model, comparison::difference::STEPS, 0),
+        at(model, COUNTS, comparison::difference::STEPS),
     );
-    if at(model, DIFFERENCE, 0) == NOTHING {
+    if at(model, FOUND, DIFFERENCE) == NOTHING {
         say(b"no difference\n");
     } else {
         say_counted(
             b"difference in history ",
-            at(model, comparison::difference::AT_HISTORY, 0),
+            at(model, FOUND, comparison::difference::AT_HISTORY),
         );
         say_number_line(
             b" after step ",
-            at(model, comparison::difference::AT_STEP, 0),
+            at(model, FOUND, comparison::difference::AT_STEP),
         );
     }
 }

@@ -2,7 +2,7 @@
 use crate::say::say_line;
 use comparison::buffers::Entries;
 use comparison::buffers::State;
-use model::variables::Model;
+use model::memory::Model;
 
 fn accepted(
     model: &mut Model,

@@ -1,4 +1,4 @@
 pub mod Words
 pub mod Runs
 pub mod Stretches
-pub mod Copies
+pub mod CopyLaws

@@ -1,8 +1,8 @@
 // The forecast: what a run would add, found by the runner on a copy, so that neither buffer changes.
 use crate::run::Run;
 use chain::answer::Verdict;
+use limits::LARGE_CAPACITY;
 use records::layout::STATE_LENGTH;
-use wellformed::LARGE_CAPACITY;
 ghost use mathlib.Core.Path.{_≡_};
 ghost use Prim.Native.Nat.{_≤_};
 ghost use lib.ListN.{length, take};

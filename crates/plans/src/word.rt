@@ -46,11 +46,12 @@ pub fn planned_step(word: u64) -> Planned
 
 // One step word on buffers of any length and content: 25 comes before 1.
 pub fn take_planned(state: &mut [u64], entries: &mut [u64], rights: &[u64], word: u64) -> Answer
-    ensures { λ r. ⌜ WordResult (wordStep (now (rights .entry)) word) (buffers (now (state .entry)) (now (entries .entry))) r (now (state .exit)) (now (entries .exit)) ⌝ }
+    ensures { λ r. ⌜ WordResult (wordStep (now (rights .entry)) word)
+        (buffers (now (state .entry)) (now (entries .entry))) r (now (state .exit)) (now (entries .exit)) ⌝ }
 {
     let planned = planned_step(word);
     match planned {
-        Planned::Take(step) => dispatch::take_step(state, entries, rights, step),
+        Planned::Take(step) => dispatch::check_and_take(state, entries, rights, step),
         Planned::UnknownStep => Answer::Refused(Refusal::UnknownStep),
     }
 }

@@ -3,7 +3,7 @@ pub mod LineLaws
 pub mod Requests
 pub mod Turns
 pub mod Opening
-pub mod FirstLine
-pub mod Openings
+pub mod FirstLineLaws
+pub mod OpeningLaws
 pub mod Starts
-pub mod Begins
+pub mod BeginningLaws

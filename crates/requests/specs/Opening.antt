@@ -4,19 +4,16 @@ use mathlib.Core.Bool.{cond}
 use mathlib.Core.List.{List, [], _∷_}
 use lib.ListN.{length}
 use lib.Dec.{leb, ltb}
+use Rattle.limits.specs.Limits.{clientLimit, largeCapacity, inputLimit}
 use Rattle.text.specs.declared.decimal.Numeral.{Numeral}
 use Rattle.text.specs.declared.decimal.Numeral.the-variants.{Number, NotNumeral}
 use Rattle.text.specs.Bytes.{bytes}
 use Rattle.text.specs.Decimal.{numeralOf}
 use Rattle.requests.specs.Lines.{Line, lines}
 
--- The most bytes of an input.
-abbrev pub inputLimit : ℕ
-inputLimit = 16384
-
 -- The words of the entry buffer of a session's log.
 abbrev pub sessionCapacity : ℕ
-sessionCapacity = 4096
+sessionCapacity = largeCapacity
 
 pub data Opening : Type 0 where
   tooLong : Opening
@@ -25,7 +22,7 @@ pub data Opening : Type 0 where
 
 -- The first line is a client count from 1 to 16. Zero stands for a line that is none.
 abbrev pub countOf : Numeral → ℕ
-countOf (Number n) = cond (leb n 16) n 0
+countOf (Number n) = cond (leb n clientLimit) n 0
 countOf NotNumeral = 0
 
 unfoldable pub clientCount : Line → ℕ

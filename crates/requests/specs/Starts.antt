@@ -9,13 +9,13 @@ use borrow.Author.Tests.{le-ltb, ltb-true}
 use Rattle.text.specs.Bytes.{bytes}
 use Rattle.text.specs.Find.{indexOf}
 use Rattle.checks.specs.TestLaws.{by-bool}
-use Rattle.records.specs.Layout.{clientLimit}
+use Rattle.limits.specs.Limits.{clientLimit, inputLimit}
 use Rattle.requests.specs.declared.start.Start.{Start}
 use Rattle.requests.specs.declared.start.Start.the-variants.{TooLong, BadStart, Begins}
 use Rattle.requests.specs.Lines.{Line, line, lines}
 use Rattle.requests.specs.LineLaws.{next-line}
-use Rattle.requests.specs.Opening.{inputLimit, tooLong, badStart, begins, clientCount, started, startedBy, opening, printed}
-use Rattle.requests.specs.FirstLine.{few-clients}
+use Rattle.requests.specs.Opening.{tooLong, badStart, begins, clientCount, started, startedBy, opening, printed}
+use Rattle.requests.specs.FirstLineLaws.{few-clients}
 
 -- A session: its client count, and where its lines begin.
 pub record Begun (input : List ℕ) (n from : ℕ) : Type 0 where

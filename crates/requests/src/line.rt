@@ -4,6 +4,7 @@ use grammar::Request;
 ghost use mathlib.Core.Path.{_≡_};
 ghost use Prim.Native.Nat.{_<_, _≤_};
 ghost use lib.ListN.{length};
+ghost use Rattle.limits.specs.Limits.{inputLimit};
 ghost use Rattle.chain.specs.Operations.{buffers};
 ghost use Rattle.requests.specs.Lines.{line};
 ghost use Rattle.requests.specs.Requests.{requestOf, Answers};
@@ -32,10 +33,16 @@ fn request_of(bytes: &[u8], ended: bool) -> Request
 }
 
 fn answer_request(state: &mut [u64], entries: &mut [u64], rights: &[u64], request: Request) -> Reply
-    ensures { λ r. ⌜ Answers (now (rights .entry)) request (buffers (now (state .entry)) (now (entries .entry))) r (now (state .exit)) (now (entries .exit)) ⌝ }
+    ensures { λ r. ⌜ Answers (now (rights .entry)) request (buffers (now (state .entry)) (now (entries .entry))) r
+        (now (state .exit)) (now (entries .exit)) ⌝ }
 {
     match request {
-        Request::Take(step) => Reply::Answered(dispatch::take_step(state, entries, rights, step)),
+        Request::Take(step) => Reply::Answered(dispatch::check_and_take(
+            state,
+            entries,
+            rights,
+            step,
+        )),
         Request::BadLine => Reply::NoStep,
     }
 }
@@ -49,8 +56,10 @@ pub fn take_line(
     rights: &[u64],
 ) -> Taken
     requires more { ⌜ from < length (now input) ⌝ }
-    requires small { ⌜ length (now input) ≤ 16384 ⌝ }
-    ensures { λ r. ⌜ TakesLine (now (rights .entry)) (now (input .entry)) from (buffers (now (state .entry)) (now (entries .entry))) (r .reply) (r .next) (buffers (now (state .exit)) (now (entries .exit))) ⌝ }
+    requires small { ⌜ length (now input) ≤ inputLimit ⌝ }
+    ensures { λ r. ⌜ TakesLine (now (rights .entry)) (now (input .entry)) from
+        (buffers (now (state .entry)) (now (entries .entry))) (r .reply) (r .next)
+        (buffers (now (state .exit)) (now (entries .exit))) ⌝ }
 {
     let end = text::find::index_from(input, from, crate::LINE_END);
     let request = request_of(&input[from..end], end < input.len());

@@ -1,16 +1,15 @@
 // The start of an input: its length and its first line.
-use records::layout::CLIENT_LIMIT;
+use limits::CLIENT_LIMIT;
+use limits::INPUT_LIMIT;
+use limits::LARGE_CAPACITY;
 use text::decimal::Numeral;
 ghost use mathlib.Core.Path.{_≡_};
 ghost use Rattle.requests.specs.Lines.{line};
 ghost use Rattle.requests.specs.Opening.{countOf, clientCount};
 ghost use Rattle.requests.specs.Starts.{Opens};
 
-// The most bytes of an input.
-pub const INPUT_LIMIT: usize = 16384;
-
 // The words of the entry buffer of a session's log.
-pub const CAPACITY: usize = 4096;
+pub const CAPACITY: usize = LARGE_CAPACITY;
 
 // No session, or its client count and where the lines after the first begin.
 pub enum Start {

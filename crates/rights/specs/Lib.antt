@@ -1,3 +1,3 @@
-pub mod Form
+pub mod FormLaws
 pub mod All
-pub mod Lent
+pub mod LentLaws

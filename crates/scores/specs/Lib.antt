@@ -1,3 +1,3 @@
 pub mod Scores
 pub mod ScoreLaws
-pub mod Adding
+pub mod AddingLaws

@@ -8,9 +8,10 @@ use mathlib.Core.List.{List, [], _∷_}
 use lib.ListN.{length, getD}
 use lib.Dec.{leb}
 use borrow.Author.Tests.{le-leb, leb-true, leb-false}
-use Rattle.checks.specs.Test.{Test, same, less, most, both, every, test, Holds, Fails}
+use Rattle.checks.specs.Test.{Test, same, less, atMost, both, every, test, Holds, Fails}
 use Rattle.checks.specs.TestLaws.{by-bool, true-holds}
-use Rattle.scores.specs.Scores.{highestScore, within, largest, part, Table, partSum, wrongCount}
+use Rattle.limits.specs.Limits.{scoreLimit}
+use Rattle.scores.specs.Scores.{within, largest, part, Table, partSum, wrongCount}
 
 module _ (p : ℕ → Bool) where
   largest-passes : p zero ≡ true → (n : ℕ) → p (largest p n) ≡ true
@@ -52,7 +53,7 @@ part-small q = largest-small (within q) (10 ^ 12)
 
 -- That e is the part of score q, as a test that computes: e is within the error probability, and the next number is not.
 abbrev pub isPart : ℕ → ℕ → Test
-isPart q e = both (most (e ^ 40 * 10 ^ q) (10 ^ 480)) (less (10 ^ 480) (suc e ^ 40 * 10 ^ q))
+isPart q e = both (atMost (e ^ 40 * 10 ^ q) (10 ^ 480)) (less (10 ^ 480) (suc e ^ 40 * 10 ^ q))
 
 pub part-is : (q e : ℕ) → Holds (isPart q e) → part q ≡ e
 part-is q e h = le-antisymm (by-bool (leb (part q) e) (leb-true (part q) e) (λ k. absurd (not-le-of-lt (h .1) (more k))))
@@ -63,15 +64,15 @@ part-is q e h = le-antisymm (by-bool (leb (part q) e) (leb-true (part q) e) (λ 
 
 -- A list that passes this test, computed once over the whole of it, is a table of parts.
 abbrev pub tableTest : List ℕ → Test
-tableTest parts = both (same (length parts) (suc highestScore)) (every (λ q _ e. isPart q e) parts)
+tableTest parts = both (same (length parts) (suc scoreLimit)) (every (λ q _ e. isPart q e) parts)
 
 pub is-table : (parts : List ℕ) → test (tableTest parts) ≡ true → Table parts
 is-table parts t = record { carries = at }
   where
-    at : (q : ℕ) → q ≤ highestScore → getD parts q 0 ≡ part q
+    at : (q : ℕ) → q ≤ scoreLimit → getD parts q 0 ≡ part q
     at q h =
         let holds : Holds (tableTest parts) = true-holds (tableTest parts) t in
-        let all : length parts ≡ suc highestScore = holds .0 in
+        let all : length parts ≡ suc scoreLimit = holds .0 in
         sym (part-is q (getD parts q 0) (holds .1 q (omega arith)))
 
 -- The parts that the reference names.

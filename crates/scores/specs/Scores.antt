@@ -5,15 +5,10 @@ use mathlib.Core.Bool.{Bool, cond}
 use mathlib.Core.List.{List, [], _∷_}
 use lib.ListN.{length, getD}
 use lib.Dec.{leb}
-use Rattle.checks.specs.Test.{Test, same, less, most, either, lacks, every, test}
+use Rattle.limits.specs.Limits.{scoresLimit, scoreLimit}
+use Rattle.checks.specs.Test.{Test, same, less, atMost, either, isNot, every, test}
 use Rattle.scores.specs.declared.sum.Sum.{Sum}
 use Rattle.scores.specs.declared.sum.Sum.the-variants.{WrongCount, ScoreTooHigh, Parts}
-
-abbrev pub highestScore : ℕ
-highestScore = 372
-
-abbrev pub scoresLimit : ℕ
-scoresLimit = 4000
 
 -- Score q stands for the error probability 10^(-q/40): e parts of 10^-12 are at most that.
 abbrev pub within : ℕ → ℕ → Bool
@@ -30,7 +25,7 @@ part q = largest (within q) (10 ^ 12)
 
 -- A table of parts, by score.
 pub record Table (parts : List ℕ) : Type 0 where
-  pub carries : (q : ℕ) → q ≤ highestScore → getD parts q 0 ≡ part q
+  pub carries : (q : ℕ) → q ≤ scoreLimit → getD parts q 0 ≡ part q
 
 unfoldable pub partSum : List ℕ → ℕ
 partSum [] = 0
@@ -40,7 +35,7 @@ abbrev pub wrongCount : List ℕ → Test
 wrongCount qs = either (same (length qs) 0) (less scoresLimit (length qs))
 
 abbrev pub tooHigh : List ℕ → Test
-tooHigh qs = lacks (every (λ _ _ q. most q highestScore) qs)
+tooHigh qs = isNot (every (λ _ _ q. atMost q scoreLimit) qs)
 
 unfoldable pub sumOf : List ℕ → Sum
 sumOf qs = cond (test (wrongCount qs)) WrongCount (cond (test (tooHigh qs)) ScoreTooHigh (Parts (partSum qs)))

@@ -1,10 +1,8 @@
 // The sum of the parts of a list of scores, or why there is none.
+use limits::SCORE_LIMIT;
+use limits::SCORES_LIMIT;
 ghost use mathlib.Core.Path.{_≡_};
 ghost use Rattle.scores.specs.Scores.{sumOf};
-
-pub const SCORES_LIMIT: usize = 4000;
-
-pub const HIGHEST_SCORE: u16 = 372;
 
 // No scores or more than the limit; a score above the highest; the sum, in parts of 10^-12.
 pub enum Sum {
@@ -27,7 +25,7 @@ pub fn sum_of(scores: &[u16]) -> Sum
     let mut i: usize = 0;
     while i < scores.len() {
         let q = scores[i];
-        if HIGHEST_SCORE < q {
+        if SCORE_LIMIT < q {
             return Sum::ScoreTooHigh;
         }
         sum += crate::table::part(&parts, q);

@@ -1,13 +1,13 @@
 pub mod Phrases
 pub mod Sentences
 pub mod Read
-pub mod Apart
-pub mod PhraseTables
-pub mod Arms
-pub mod Lengths
-pub mod Said
+pub mod ApartLaws
+pub mod PhraseTableLaws
+pub mod ArmLaws
+pub mod LengthLaws
+pub mod SaidLaws
 pub mod ReadLaws
-pub mod SentencePromise
-pub mod Reading
-pub mod SentenceTheorem
+pub mod SentencesPromise
+pub mod ReadingLaws
+pub mod SentencesTheorem
 mod Examples

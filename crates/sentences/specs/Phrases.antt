@@ -3,7 +3,7 @@ use Prim.Native.Nat.{ℕ}
 use mathlib.Core.List.{List, [], _∷_}
 use lib.ListN.{length, getD}
 use Rattle.text.specs.Bytes.{bytes}
-use Rattle.checks.specs.Test.{Test, same, most, both, either, every}
+use Rattle.checks.specs.Test.{Test, same, atMost, both, either, every}
 
 -- The names of steps 0 to 9.
 unfoldable pub stepNames : List (List ℕ)
@@ -63,7 +63,7 @@ reason refusal = getD ([] ∷ reasons) refusal []
 -- 1 to so many bytes, each a small letter or a space.
 abbrev pub phraseTest : ℕ → List ℕ → Test
 phraseTest longest bs =
-    both (both (most 1 (length bs)) (most (length bs) longest)) (every (λ _ _ b. either (same b 32) (both (most 97 b) (most b 122))) bs)
+    both (both (atMost 1 (length bs)) (atMost (length bs) longest)) (every (λ _ _ b. either (same b 32) (both (atMost 97 b) (atMost b 122))) bs)
 
 abbrev pub longestName : ℕ
 longestName = 10

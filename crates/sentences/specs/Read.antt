@@ -24,8 +24,8 @@ unfoldable pub phraseEnd : List ℕ → List ℕ → ℕ
 phraseEnd bs phrase = cond (begins bs phrase) (length phrase) 0
 
 -- What is read behind a phrase that begins the text.
-unfoldable pub behind : List ℕ → (List ℕ → SentenceRead) → List ℕ → SentenceRead
-behind phrase read bs = cond (begins bs phrase) (read (drop (length phrase) bs)) NotSentence
+unfoldable pub afterPhrase : List ℕ → (List ℕ → SentenceRead) → List ℕ → SentenceRead
+afterPhrase phrase read bs = cond (begins bs phrase) (read (drop (length phrase) bs)) NotSentence
 
 -- The first phrase of a table that passes, where the table's first has the number n.
 unfoldable pub firstOf : (List ℕ → Bool) → (ℕ → List ℕ → SentenceRead) → ℕ → List (List ℕ) → SentenceRead
@@ -39,7 +39,7 @@ unfoldable pub readReason : ℕ → ℕ → List ℕ → SentenceRead
 readReason step client bs = firstOf (sameBytes bs) (λ refusal _. says step client refusal) 1 reasons
 
 unfoldable pub readColon : ℕ → ℕ → List ℕ → SentenceRead
-readColon step client = behind (bytes ": ") (readReason step client)
+readColon step client = afterPhrase (bytes ": ") (readReason step client)
 
 abbrev pub readNumber : ℕ → Numeral → List ℕ → SentenceRead
 readNumber step (Number client) bs = cond (leb client lastClient) (readColon step client bs) NotSentence
@@ -49,7 +49,7 @@ unfoldable pub readClient : ℕ → List ℕ → SentenceRead
 readClient step bs = readNumber step (numeralOf (take (indexOf (code ":") bs) bs)) (drop (indexOf (code ":") bs) bs)
 
 unfoldable pub readTail : ℕ → List ℕ → SentenceRead
-readTail step = behind (bytes " of client ") (readClient step)
+readTail step = afterPhrase (bytes " of client ") (readClient step)
 
 unfoldable pub readSentence : List ℕ → SentenceRead
 readSentence bs = firstOf (begins bs) (λ step name. readTail step (drop (length name) bs)) 0 stepNames

@@ -20,8 +20,8 @@ use Rattle.checks.specs.TestLaws.{by-bool}
 use Rattle.sentences.specs.declared.answer.SentenceRead.{SentenceRead}
 use Rattle.sentences.specs.declared.answer.SentenceRead.the-variants.{NotSentence}
 use Rattle.sentences.specs.Phrases.{stepNames, stepName}
-use Rattle.sentences.specs.PhraseTables.{name-count, name-holds}
-use Rattle.sentences.specs.Read.{begins, phraseEnd, behind, firstOf, readColon, readNumber, readClient, readTail}
+use Rattle.sentences.specs.PhraseTableLaws.{name-count, name-holds}
+use Rattle.sentences.specs.Read.{begins, phraseEnd, afterPhrase, firstOf, readColon, readNumber, readClient, readTail}
 
 -- The part of a slice from n on is all that is left.
 rest : (n : ℕ) (bs : List ℕ) → take (length bs - n) (drop n bs) ≡ drop n bs
@@ -63,12 +63,12 @@ module _ (bs phrase : List ℕ) where
     unfolding phraseEnd
     begins-so n = by-bool (begins bs phrase) (λ h. (h, e ∙ rw h)) (λ h. let y : end ≡ 0 = e ∙ rw h in absurd (n y))
 
-    pub behind-not : 1 ≤ length phrase → end ≡ 0 → (read : List ℕ → SentenceRead) → NotSentence ≡ behind phrase read bs
-    unfolding behind
+    pub behind-not : 1 ≤ length phrase → end ≡ 0 → (read : List ℕ → SentenceRead) → NotSentence ≡ afterPhrase phrase read bs
+    unfolding afterPhrase
     behind-not l z read = rw (begins-not l z)
 
-    pub behind-so : (end ≡ 0 → ⊥) → (read : List ℕ → SentenceRead) → read (take (length bs - end) (drop end bs)) ≡ behind phrase read bs
-    unfolding behind
+    pub behind-so : (end ≡ 0 → ⊥) → (read : List ℕ → SentenceRead) → read (take (length bs - end) (drop end bs)) ≡ afterPhrase phrase read bs
+    unfolding afterPhrase
     behind-so n read = let t = begins-so n in rw (t .0) (ap read (rest end bs ∙ ap (λ (k : ℕ). drop k bs) (t .1)))
 
 -- A table that is tried from its beginning, and has come to a place.

@@ -1,8 +1,8 @@
 pub mod Transcript
 pub mod SessionPromise
-pub mod Accepted
+pub mod AcceptedLaws
 pub mod SessionTheorem
 pub mod Parts
-pub mod Lengths
-pub mod Starts
+pub mod LengthLaws
+pub mod StartLaws
 mod Examples

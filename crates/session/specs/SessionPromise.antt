@@ -10,14 +10,14 @@ use Rattle.chain.specs.declared.answer.Answer.{Answer}
 use Rattle.chain.specs.declared.answer.Answer.the-variants.{Done}
 use Rattle.chain.specs.Rights.{allRights}
 use Rattle.chain.specs.Operations.{stepAnswers, freshAnswer, afterFresh}
-use Rattle.chain.specs.Promises.{after, told, ShowsHistory}
+use Rattle.chain.specs.LogPromise.{after, told, ShowsHistory}
 use Rattle.grammar.specs.declared.Request.{Request}
 use Rattle.grammar.specs.declared.Request.the-variants.{Take, BadLine}
 use Rattle.replies.specs.Replies.{answerText, replyLine}
 use Rattle.requests.specs.Lines.{Line, lines}
 use Rattle.requests.specs.Requests.{requestOf, taken}
-use Rattle.requests.specs.FirstLine.{firstLine}
-use Rattle.requests.specs.Begins.{blank}
+use Rattle.requests.specs.FirstLineLaws.{firstLine}
+use Rattle.requests.specs.BeginningLaws.{blank}
 use Rattle.session.specs.Transcript.{transcript}
 
 -- The reply lines, numbered from some number on. A line that is a step takes the next answer; a bad line takes none.

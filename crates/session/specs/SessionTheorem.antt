@@ -4,24 +4,24 @@ use mathlib.Core.Path.{_≡_, refl, sym, ap, _∙_}
 use mathlib.Core.List.{List, [], _∷_, _++_, map, append-assoc}
 use lib.ListN.{length}
 use Rattle.text.specs.Bytes.{bytes}
-use Rattle.records.specs.Layout.{clientLimit}
+use Rattle.limits.specs.Limits.{clientLimit, inputLimit}
 use Rattle.chain.specs.Steps.{Step}
 use Rattle.chain.specs.Rights.{allRights}
 use Rattle.chain.specs.Operations.{Buffers, stepAnswer, afterStep, afterSteps, stepAnswers, afterFresh, chainReading}
-use Rattle.chain.specs.Promises.{after, told}
+use Rattle.chain.specs.LogPromise.{after, told}
 use Rattle.dispatch.specs.Dispatch.{stepOf}
 use Rattle.grammar.specs.declared.Request.{Request}
 use Rattle.grammar.specs.declared.Request.the-variants.{Take, BadLine}
 use Rattle.requests.specs.Lines.{Line, lines}
 use Rattle.requests.specs.Requests.{requestOf, replyTo, afterRequest, requested, taken}
-use Rattle.requests.specs.Opening.{inputLimit, printed}
-use Rattle.requests.specs.FirstLine.{firstLine}
-use Rattle.requests.specs.Openings.{opens-good, opens-bad, opens-long}
-use Rattle.requests.specs.Begins.{blank, begun, left-by-fresh, history}
+use Rattle.requests.specs.Opening.{printed}
+use Rattle.requests.specs.FirstLineLaws.{firstLine}
+use Rattle.requests.specs.OpeningLaws.{opens-good, opens-bad, opens-long}
+use Rattle.requests.specs.BeginningLaws.{blank, begun, left-by-fresh, history}
 use Rattle.replies.specs.Replies.{answerText, replyText, replyLine, entriesText, chainLine}
 use Rattle.session.specs.Transcript.{session, sessionText, transcript}
 use Rattle.session.specs.SessionPromise.{replies, writesLine, ShowsSession, SessionShowsHistory}
-use Rattle.session.specs.Accepted.{accepted-text}
+use Rattle.session.specs.AcceptedLaws.{accepted-text}
 
 -- What is printed, from any buffers: the answers of the steps, in order, and the chain that they lead to.
 abbrev shown : List ℕ → ℕ → List Line → Buffers → List ℕ

@@ -15,7 +15,8 @@ pub fn put_chain(
 ) -> usize
     requires reads { ⌜ Reads (buffers (now state) (now entries)) (now reading) ⌝ }
     requires room { ⌜ Room (now text) at (chainLine (chainReading (buffers (now state) (now entries)))) ⌝ }
-    ensures { λ r. ⌜ Puts (now (text .entry)) at (chainLine (chainReading (buffers (now (state .entry)) (now (entries .entry))))) (now (text .exit)) r ⌝ }
+    ensures { λ r. ⌜ Puts (now (text .entry)) at
+        (chainLine (chainReading (buffers (now (state .entry)) (now (entries .entry))))) (now (text .exit)) r ⌝ }
 {
     let answer = readers::read_chain::read_chain(state, entries, reading);
     match answer {

@@ -1,6 +1,7 @@
 // The replies to the lines after the first, each numbered.
 ghost use Prim.Native.Nat.{_≤_};
 ghost use lib.ListN.{length, drop};
+ghost use Rattle.limits.specs.Limits.{inputLimit};
 ghost use Rattle.text.specs.Puts.{Room};
 ghost use Rattle.chain.specs.Operations.{buffers};
 ghost use Rattle.requests.specs.Lines.{lines};
@@ -17,9 +18,11 @@ pub fn put_replies(
     text: &mut [u8],
 ) -> usize
     requires from { ⌜ from ≤ length (now input) ⌝ }
-    requires small { ⌜ length (now input) ≤ 16384 ⌝ }
+    requires small { ⌜ length (now input) ≤ inputLimit ⌝ }
     requires room { ⌜ Room (now text) 0 (session (now rights) 1 (lines (drop from (now input))) (buffers (now state) (now entries))) ⌝ }
-    ensures { λ r. ⌜ Ran (now (rights .entry)) (lines (drop from (now (input .entry)))) (buffers (now (state .entry)) (now (entries .entry))) (now (text .entry)) (buffers (now (state .exit)) (now (entries .exit))) (now (text .exit)) r ⌝ }
+    ensures { λ r. ⌜ Ran (now (rights .entry)) (lines (drop from (now (input .entry))))
+        (buffers (now (state .entry)) (now (entries .entry))) (now (text .entry))
+        (buffers (now (state .exit)) (now (entries .exit))) (now (text .exit)) r ⌝ }
 {
     let mut at: usize = 0;
     let mut number: u64 = 1;

@@ -5,4 +5,4 @@ pub mod RowsPromise
 pub mod Laws
 pub mod SharedTheorem
 pub mod RowsTheorem
-pub mod Example
+pub mod Examples

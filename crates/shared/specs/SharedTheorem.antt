@@ -18,8 +18,8 @@ use Rattle.chain.specs.Answers.{isRefused}
 use Rattle.chain.specs.Steps.{write, Content, amount, Step, by}
 use Rattle.chain.specs.Operations.{Buffers, afterSteps, freshAnswer, afterFresh, chainReading}
 use Rattle.chain.specs.Journal.{start}
-use Rattle.chain.specs.Promises.{told}
-use Rattle.chain.specs.Theorems.{whole-history, refusals-change-nothing}
+use Rattle.chain.specs.LogPromise.{told}
+use Rattle.chain.specs.LogTheorem.{whole-history, refusals-change-nothing}
 use Rattle.chain.specs.MarkingTheorem.{marks-hold}
 use Rattle.chain.specs.GrowingTheorem.{readings-grow}
 use Rattle.sharing.specs.Places.{At, In}

@@ -6,7 +6,7 @@ use mathlib.Core.Bool.{Bool, true, false}
 use mathlib.Core.List.{List, _++_}
 use mathlib.Core.Logic.{inl, inr}
 use lib.ListN.{length}
-use Rattle.checks.specs.Test.{same, most}
+use Rattle.checks.specs.Test.{same, atMost}
 use Rattle.checks.specs.TestLaws.{by-test}
 use Rattle.chain.specs.Log.{put}
 use Rattle.chain.specs.Laws.Lists.{put-same}
@@ -206,7 +206,7 @@ module _ {M : Machine} (base : M .Log) (s : State M) (c : ℕ) (v : Invariant ba
 
   -- It knows where its own row is.
   placed : (m : Append M) (place : ℕ) (r : Row M) → now .phase ≡ waiting m → At (s .rows) place r → r .id ≡ m .id → Result (seen.Placed (now .known) place) (waiting m)
-  placed m place r p there e = by-test (most place (now .known)) next-one further-on
+  placed m place r p there e = by-test (atMost place (now .known)) next-one further-on
     where
       next-one : place ≤ now .known → Result (seen.Placed (now .known) place) (waiting m)
       next-one h =

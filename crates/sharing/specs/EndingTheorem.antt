@@ -6,7 +6,7 @@ use mathlib.Core.Bool.{Bool, true, false}
 use mathlib.Core.List.{List}
 use mathlib.Core.Logic.{_⊎_, inl, inr}
 use lib.ListN.{length}
-use Rattle.checks.specs.Test.{most}
+use Rattle.checks.specs.Test.{atMost}
 use Rattle.checks.specs.TestLaws.{by-bool, by-test}
 use Rattle.sharing.specs.declared.controller.Phase.the-variants as phases
 use Rattle.sharing.specs.declared.controller.Seen.{Seen}
@@ -116,7 +116,7 @@ module _ {M : Machine} (base : M .Log) (c : ℕ) where
     after-place : (u : State M) → Invariant base u → u .controllers c .phase ≡ waiting m → (i : ℕ) (r : Row M) → At (u .rows) i r → r .id ≡ m .id
         → Then (suc n) u (seen.Placed (u .controllers c .known) i)
     after-place u v q i r there e = after-turn (suc n) u v (waiting m) q (seen.Placed (u .controllers c .known) i) (places m i r q there e) (λ w x t.
-        by-test (most i (u .controllers c .known))
+        by-test (atMost i (u .controllers c .known))
         (λ (h : i ≤ u .controllers c .known). subst (λ (y : Turn). Ends base c (suc n) w (y .act)) (sym (placed-next (m .id) (u .controllers c .known) i h))
         (ends-now base c (suc n) w acts.Tell tt))
         (λ (h : u .controllers c .known < i).

@@ -19,4 +19,4 @@ pub mod SharingTheorem
 pub mod DrivingTheorem
 pub mod EndingTheorem
 pub mod LosingTheorem
-pub mod Example
+pub mod Examples

@@ -282,9 +282,9 @@ module _ {M : Machine} (base : M .Log) (c : ℕ) where
       let k : Controller M = reading (t .rows) i (t .controllers c) in
       let o : In m (t .sent) × (m .asking .asker ≡ c) × Ahead (t .rows) (t .controllers c .known) m =
       subst (PhaseRight t c (t .controllers c .known)) q (w .controllers c .phase) in
-      let most : i < length (t .rows) = at-less (t .rows) i r there in (
+      let atMost : i < length (t .rows) = at-less (t .rows) i r there in (
         withController c k t,
-        look i (subst Runs (sym q) tt) (o .2 i r there e) (omega (arith, most)) (λ n x j y z _ less g. omega (
+        look i (subst Runs (sym q) tt) (o .2 i r there e) (omega (arith, atMost)) (λ n x j y z _ less g. omega (
           arith,
           w .one-row i j r y there z
               (e ∙ ap (λ (b : Append M). b .id) (same-append m n (sym q ∙ x)) ∙ sym g),

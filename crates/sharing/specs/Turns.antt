@@ -1,7 +1,7 @@
 -- What a controller does next, by its phase and what it has seen: the table that `decide` is proved against.
 use Prim.Native.Nat.{ℕ}
 use mathlib.Core.Bool.{cond}
-use Rattle.checks.specs.Test.{most, same, test}
+use Rattle.checks.specs.Test.{atMost, same, test}
 use Rattle.sharing.specs.declared.controller.Phase.{Phase}
 use Rattle.sharing.specs.declared.controller.Phase.the-variants as phases
 use Rattle.sharing.specs.declared.controller.Seen.{Seen}
@@ -58,7 +58,7 @@ abbrev pub whenBetween : Act
 whenBetween = acts.Read
 
 abbrev pub whenPlaced : ℕ → ℕ → ℕ → Turn
-whenPlaced id n place = cond (test (most place n)) (to phases.Idle acts.Tell) (to (phases.Waiting id) whenBetween)
+whenPlaced id n place = cond (test (atMost place n)) (to phases.Idle acts.Tell) (to (phases.Waiting id) whenBetween)
 
 abbrev pub whenWaiting : ℕ → Seen → Turn
 whenWaiting id Asked = to (phases.Waiting id) acts.Append

@@ -1,8 +1,8 @@
 pub mod Storage
-pub mod Wrapping
+pub mod WrappingLaws
 pub mod PlaneLaws
-pub mod Writing
+pub mod WritingLaws
 pub mod Restoring
-pub mod Decided
+pub mod DecidedLaws
 pub mod StoragePromise
 pub mod StorageTheorem

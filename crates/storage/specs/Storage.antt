@@ -2,6 +2,7 @@
 use Prim.Native.Nat.{ℕ, zero, suc, _+_, _-_, _*_, _/_, _%_, _^_, _<_}
 use mathlib.Core.List.{List, [], _∷_, _++_, map}
 use lib.ListN.{length, getD, drop}
+use Rattle.limits.specs.Limits.{rearrangeLimit}
 use Rattle.checks.specs.Test.{Test, less, differ, either}
 use Rattle.checks.specs.Checks.{Check, _when_, first}
 use Rattle.chain.specs.declared.answer.Refusal.{Refusal}
@@ -60,12 +61,9 @@ sumsAfter before (d ∷ ds) = plus before d ∷ sumsAfter (plus before d) ds
 unfoldable pub restoration : ℕ → List ℕ → List ℕ
 restoration n bs = sumsAfter 0 (joinedFrom n 0 n bs)
 
-abbrev pub wordsLimit : ℕ
-wordsLimit = 4096
-
 -- By the counts of words and of bytes.
 abbrev pub wrongLength : ℕ → ℕ → Test
-wrongLength words bytes = either (less wordsLimit words) (differ bytes (8 * words))
+wrongLength words bytes = either (less rearrangeLimit words) (differ bytes (8 * words))
 
 abbrev pub storageChecks : ℕ → ℕ → List (Check Refusal)
 storageChecks words bytes = (StorageLength when wrongLength words bytes) ∷ []

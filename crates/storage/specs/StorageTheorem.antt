@@ -10,8 +10,9 @@ use lib.ListN.{length, getD}
 use Rattle.checks.specs.Test.{test}
 use Rattle.checks.specs.TestLaws.{by-bool, holds-true, fails-false, true-holds, false-fails}
 use Rattle.chain.specs.Answers.{done, refused, answerNumber}
-use Rattle.storage.specs.Storage.{Below, wordsLimit, minus, wrongLength, differencesAfter, differences, plane, planes, rearrangement, joinedFrom, sumsAfter, restoration, storageAnswer, bytesAfter, wordsAfter}
-use Rattle.storage.specs.Wrapping.{sums-differences, differences-sums, differences-length, differences-below, sums-length}
+use Rattle.limits.specs.Limits.{rearrangeLimit}
+use Rattle.storage.specs.Storage.{Below, minus, wrongLength, differencesAfter, differences, plane, planes, rearrangement, joinedFrom, sumsAfter, restoration, storageAnswer, bytesAfter, wordsAfter}
+use Rattle.storage.specs.WrappingLaws.{sums-differences, differences-sums, differences-length, differences-below, sums-length}
 use Rattle.storage.specs.PlaneLaws.{planes-at, planes-length, joined-all, joined-below, joined-from-length, planes-all}
 use Rattle.storage.specs.StoragePromise.{Taken, GivesBack}
 
@@ -30,11 +31,11 @@ module _ (n m : ℕ) where
       there : answerNumber (storageAnswer n m) ≡ done → Taken n m
       there a = by-bool (test (wrongLength n m)) (λ e. let z : 282 ≡ 0 = rw e at a in absurd (omega arith)) (λ e. false-fails (wrongLength n m) e)
 
-  answer-refused : (answerNumber (storageAnswer n m) ≡ refused 26) ↔ ((wordsLimit < n) ⊎ (m ≡ 8 * n → ⊥))
+  answer-refused : (answerNumber (storageAnswer n m) ≡ refused 26) ↔ ((rearrangeLimit < n) ⊎ (m ≡ 8 * n → ⊥))
   unfolding storageAnswer
   answer-refused = (there, λ h. rw (holds-true (wrongLength n m) h))
     where
-      there : answerNumber (storageAnswer n m) ≡ refused 26 → (wordsLimit < n) ⊎ (m ≡ 8 * n → ⊥)
+      there : answerNumber (storageAnswer n m) ≡ refused 26 → (rearrangeLimit < n) ⊎ (m ≡ 8 * n → ⊥)
       there a = by-bool (test (wrongLength n m)) (λ e. true-holds (wrongLength n m) e) (λ e. let z : 0 ≡ 282 = rw e at a in absurd (omega arith))
 
 bytes-same : (ws bs : List ℕ) → (Taken (length ws) (length bs) → ⊥) → bytesAfter ws bs ≡ bs

@@ -4,7 +4,8 @@ use chain::answer::Refusal;
 ghost use mathlib.Core.Path.{_≡_};
 ghost use Prim.Native.Nat.{_-_, _*_, _<_, _≤_};
 ghost use lib.ListN.{length};
-ghost use Rattle.storage.specs.Storage.{wordsLimit, differences, plane, rearrangement, storageAnswer, bytesAfter};
+ghost use Rattle.limits.specs.Limits.{rearrangeLimit};
+ghost use Rattle.storage.specs.Storage.{differences, plane, rearrangement, storageAnswer, bytesAfter};
 
 const PLANES: u64 = 8;
 
@@ -27,7 +28,7 @@ fn write_plane(words: &[u64], bytes: &mut [u8], j: u64)
 
 // Plane after plane, so that all bytes are written in one order and the words are read in theirs.
 fn write_planes(words: &[u64], bytes: &mut [u8])
-    requires { ⌜ (length (now words) ≤ wordsLimit) × (length (now bytes) ≡ 8 * length (now words)) ⌝ }
+    requires { ⌜ (length (now words) ≤ rearrangeLimit) × (length (now bytes) ≡ 8 * length (now words)) ⌝ }
     ensures { λ _. ⌜ now (bytes .exit) ≡ rearrangement (now (words .entry)) ⌝ }
 {
     let mut j: u64 = 0;

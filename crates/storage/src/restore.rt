@@ -5,7 +5,8 @@ ghost use mathlib.Core.Path.{_≡_};
 ghost use Prim.Native.Nat.{_*_, _<_, _≤_};
 ghost use mathlib.Core.List.{[], _∷_};
 ghost use lib.ListN.{length};
-ghost use Rattle.storage.specs.Storage.{wordsLimit, joined, restoration, storageAnswer, wordsAfter};
+ghost use Rattle.limits.specs.Limits.{rearrangeLimit};
+ghost use Rattle.storage.specs.Storage.{joined, restoration, storageAnswer, wordsAfter};
 ghost use Rattle.storage.specs.Restoring.{Alike, together};
 
 fn wide(byte: u8) -> u64
@@ -37,7 +38,9 @@ fn sum_planes(
     words: &mut [u64],
 )
     requires { ⌜ Alike (length (now words)) (now a) (now b) (now c) (now d) (now e) (now f) (now g) (now h) ⌝ }
-    ensures { λ _. ⌜ now (words .exit) ≡ restoration (length (now (words .entry))) (together (now (a .entry)) (now (b .entry)) (now (c .entry)) (now (d .entry)) (now (e .entry)) (now (f .entry)) (now (g .entry)) (now (h .entry))) ⌝ }
+    ensures { λ _. ⌜ now (words .exit) ≡
+        restoration (length (now (words .entry))) (together (now (a .entry)) (now (b .entry))
+        (now (c .entry)) (now (d .entry)) (now (e .entry)) (now (f .entry)) (now (g .entry)) (now (h .entry))) ⌝ }
 {
     let mut sum: u64 = 0;
     let mut i: usize = 0;
@@ -58,7 +61,7 @@ fn sum_planes(
 
 // The planes are parts of their own, so that the loop has one index; b to h are where those of these letters end.
 fn restore_words(bytes: &[u8], words: &mut [u64])
-    requires { ⌜ (length (now words) ≤ wordsLimit) × (length (now bytes) ≡ 8 * length (now words)) ⌝ }
+    requires { ⌜ (length (now words) ≤ rearrangeLimit) × (length (now bytes) ≡ 8 * length (now words)) ⌝ }
     ensures { λ _. ⌜ now (words .exit) ≡ restoration (length (now (words .entry))) (now (bytes .entry)) ⌝ }
 {
     let n = words.len();

@@ -13,7 +13,7 @@ use lib.Dec.{ltb, leb, eqb}
 use borrow.Author.Tests.{lt-ltb, le-leb, ne-eqb, leb-true, eqb-false, not-true}
 use Rattle.text.specs.declared.decimal.Numeral.the-variants.{Number, NotNumeral}
 use Rattle.text.specs.Decimal.{decimal, isDigit, allDigits, starts, valueFrom, value, numeralOf}
-use Rattle.text.specs.Digits.{decimal-one, decimal-more, one-length, more-length, by-digits}
+use Rattle.text.specs.DigitLaws.{decimal-one, decimal-more, one-length, more-length, by-digits}
 
 pub digit-range : (b : ℕ) → isDigit b ≡ true → (48 ≤ b) × (b ≤ 57)
 unfolding isDigit

@@ -1,13 +1,13 @@
 pub mod Bytes
 pub mod Decimal
-pub mod Digits
+pub mod DigitLaws
 pub mod DecimalLaws
 pub mod Phrase
 pub mod PhraseLaws
 pub mod Find
-pub mod Writes
+pub mod WriteLaws
 pub mod Puts
 pub mod Lent
-pub mod PutDecimal
-pub mod ParseDecimal
+pub mod PutDecimalLaws
+pub mod ParseDecimalLaws
 mod Examples

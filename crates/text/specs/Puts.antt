@@ -5,7 +5,7 @@ use mathlib.Core.Path.{_≡_, refl, sym, ap, _∙_}
 use mathlib.Core.List.{List, [], _++_}
 use lib.ListN.{length, length-append}
 use lib.Seq.{sets, length-sets}
-use Rattle.text.specs.Writes.{sets-++}
+use Rattle.text.specs.WriteLaws.{sets-++}
 
 -- The text afterwards, and where the bytes end in it.
 pub record Puts (text : List ℕ) (at : ℕ) (bytes after : List ℕ) (end : ℕ) : Type 0 where

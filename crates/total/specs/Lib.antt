@@ -1,8 +1,8 @@
 pub mod Output
 pub mod TotalPromise
-pub mod Answers
-pub mod Listing
-pub mod Summed
-pub mod Lengths
+pub mod AnswerLaws
+pub mod ListingLaws
+pub mod SummedLaws
+pub mod LengthLaws
 pub mod TotalTheorem
 mod Examples

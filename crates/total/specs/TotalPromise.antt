@@ -11,12 +11,12 @@ use Rattle.chain.specs.Rights.{allRights}
 use Rattle.chain.specs.Operations.{stepAnswers, freshAnswer, afterFresh}
 use Rattle.chain.specs.Journal.{start, journal}
 use Rattle.chain.specs.Values.{sum, values}
-use Rattle.chain.specs.Promises.{told}
+use Rattle.chain.specs.LogPromise.{told}
 use Rattle.totals.specs.TotalsPromise.{writesAlong}
 use Rattle.requests.specs.Lines.{Line, lines}
 use Rattle.requests.specs.Requests.{taken}
-use Rattle.requests.specs.FirstLine.{firstLine}
-use Rattle.requests.specs.Begins.{blank}
+use Rattle.requests.specs.FirstLineLaws.{firstLine}
+use Rattle.requests.specs.BeginningLaws.{blank}
 use Rattle.total.specs.Output.{ledgerLine, endLines, output}
 
 -- A line for each of some ledgers, from the writes into it.

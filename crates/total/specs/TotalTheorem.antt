@@ -5,26 +5,26 @@ use mathlib.Core.Path.{_≡_, refl, sym, ap, _∙_}
 use mathlib.Core.List.{List, [], _∷_, _++_}
 use lib.ListN.{length, getD}
 use Rattle.records.specs.declared.entry.Entry.{Entry}
-use Rattle.records.specs.Layout.{clientLimit}
+use Rattle.limits.specs.Limits.{clientLimit, inputLimit}
 use Rattle.chain.specs.Log.{ofLedger, entryLedger}
 use Rattle.chain.specs.Steps.{Step}
 use Rattle.chain.specs.Rights.{allRights}
 use Rattle.chain.specs.Operations.{Buffers, afterSteps}
 use Rattle.chain.specs.Journal.{Journal}
 use Rattle.chain.specs.Values.{sum, values}
-use Rattle.chain.specs.Promises.{after, told}
+use Rattle.chain.specs.LogPromise.{after, told}
 use Rattle.totals.specs.declared.answer.SumAnswer.the-variants as sums
 use Rattle.totals.specs.Totals.{ledgerSum}
 use Rattle.totals.specs.TotalsPromise.{SumsHistory}
 use Rattle.requests.specs.Lines.{lines}
 use Rattle.requests.specs.Requests.{taken}
-use Rattle.requests.specs.Opening.{inputLimit, printed}
-use Rattle.requests.specs.FirstLine.{firstLine}
-use Rattle.requests.specs.Openings.{opens-good, opens-bad, opens-long}
-use Rattle.requests.specs.Begins.{blank, begun, left-by-fresh, history}
+use Rattle.requests.specs.Opening.{printed}
+use Rattle.requests.specs.FirstLineLaws.{firstLine}
+use Rattle.requests.specs.OpeningLaws.{opens-good, opens-bad, opens-long}
+use Rattle.requests.specs.BeginningLaws.{blank, begun, left-by-fresh, history}
 use Rattle.total.specs.Output.{lineOf, endOf, endLines, ledgerLines, logText, sessionTotal, output}
 use Rattle.total.specs.TotalPromise.{writesLines, listed, accepted, ShowsTotal, TotalShowsHistory}
-use Rattle.total.specs.Summed as sessions
+use Rattle.total.specs.SummedLaws as sessions
 
 -- Some ledgers, each summed over the writes into it.
 lines-show : (b : Buffers) (es : List Entry) (ks : List ℕ)

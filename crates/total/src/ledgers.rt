@@ -28,7 +28,9 @@ fn put_ledger(
 pub fn put_ledgers(state: &[u64], entries: &[u64], text: &mut [u8]) -> usize
     requires log { ⌜ IsLog (buffers (now state) (now entries)) ⌝ }
     requires room { ⌜ Room (now text) 0 (ledgerLines (held (buffers (now state) (now entries)) .list) (buffers (now state) (now entries))) ⌝ }
-    ensures { λ r. ⌜ Puts (now (text .entry)) 0 (ledgerLines (held (buffers (now (state .entry)) (now (entries .entry))) .list) (buffers (now (state .entry)) (now (entries .entry)))) (now (text .exit)) r ⌝ }
+    ensures { λ r. ⌜ Puts (now (text .entry)) 0
+        (ledgerLines (held (buffers (now (state .entry)) (now (entries .entry))) .list) (buffers (now (state .entry)) (now (entries .entry))))
+        (now (text .exit)) r ⌝ }
 {
     let mut at: usize = 0;
     let mut place: u64 = 1;

@@ -5,14 +5,14 @@ use totals::answer::RunTotal;
 ghost use Rattle.text.specs.Puts.{Puts, Room};
 ghost use Rattle.total.specs.Output.{ledgerLine, totalLine, roundedLine, totalLines};
 
-pub fn put_ledger_line(text: &mut [u8], at: usize, ledger: LedgerNumber, s: LedgerSum) -> usize
-    requires { ⌜ Room (now text) at (ledgerLine (ledger .0) (s .entries) (s .sum)) ⌝ }
-    ensures { λ r. ⌜ Puts (now (text .entry)) at (ledgerLine (ledger .0) (s .entries) (s .sum)) (now (text .exit)) r ⌝ }
+pub fn put_ledger_line(text: &mut [u8], at: usize, ledger: LedgerNumber, sum: LedgerSum) -> usize
+    requires { ⌜ Room (now text) at (ledgerLine (ledger .0) (sum .entries) (sum .sum)) ⌝ }
+    ensures { λ r. ⌜ Puts (now (text .entry)) at (ledgerLine (ledger .0) (sum .entries) (sum .sum)) (now (text .exit)) r ⌝ }
 {
     let e = text::decimal::put_counted(text, at, b"ledger ", ledger.0);
-    let f = text::decimal::put_counted(text, e, b" entries ", s.entries);
+    let f = text::decimal::put_counted(text, e, b" entries ", sum.entries);
     let g = text::phrase::put_phrase(text, f, b" sum ");
-    let h = amounts::fixed::put_exact(text, g, s.sum);
+    let h = amounts::fixed::put_exact(text, g, sum.sum);
     text::phrase::put_byte(text, h, b'\n')
 }
 

@@ -6,6 +6,7 @@ use totals::answer::TotalAnswer;
 ghost use mathlib.Core.Path.{_≡_};
 ghost use Prim.Native.Nat.{_≤_};
 ghost use lib.ListN.{length, drop};
+ghost use Rattle.limits.specs.Limits.{inputLimit};
 ghost use Rattle.text.specs.Puts.{Puts, Room};
 ghost use Rattle.chain.specs.Operations.{buffers, afterSteps, IsLog};
 ghost use Rattle.totals.specs.Totals.{runTotal};
@@ -17,8 +18,10 @@ ghost use Rattle.total.specs.Output.{endOf, logText, sessionTotal, outpu
 // Takes the lines from a place of the input on.
 fn run_lines(input: &[u8], from: usize, state: &mut [u64], entries: &mut [u64], rights: &[u64])
     requires from { ⌜ from ≤ length (now input) ⌝ }
-    requires small { ⌜ length (now input) ≤ 16384 ⌝ }
-    ensures { λ r. ⌜ buffers (now (state .exit)) (now (entries .exit)) ≡ afterSteps (taken (now (rights .entry)) (lines (drop from (now (input .entry))))) (buffers (now (state .entry)) (now (entries .entry))) ⌝ }
+    requires small { ⌜ length (now input) ≤ inputLimit ⌝ }
+    ensures { λ r. ⌜ buffers (now (state .exit)) (now (entries .exit)) ≡ afterSteps
+        (taken (now (rights .entry)) (lines (drop from (now (input .entry)))))
+        (buffers (now (state .entry)) (now (entries .entry))) ⌝ }
 {
     let mut i = from;
     while i < input.len() {

@@ -1,6 +1,8 @@
 pub mod Totals
-pub mod Sums
+pub mod SumLaws
 pub mod Carried
-pub mod Answered
+pub mod AnswerLaws
 pub mod TotalsPromise
 pub mod TotalsTheorem
+pub mod FourteenPromise
+pub mod FourteenTheorem

@@ -6,17 +6,16 @@ use mathlib.Core.Logic.{_⊎_}
 use lib.ListN.{length, getD}
 use Rattle.records.specs.declared.entry.Entry.{Entry}
 use Rattle.records.specs.Words.{ledgerNumber}
-use Rattle.chain.specs.declared.answer.Refusal.{Refusal}
 use Rattle.chain.specs.declared.answer.Refusal.the-variants.{NotListed}
 use Rattle.chain.specs.declared.answer.Answer.the-variants.{Done}
 use Rattle.chain.specs.declared.answer.PlaceAnswer.the-variants as listing
-use Rattle.chain.specs.Answers.{refusalNumber, done, placeNumber}
+use Rattle.chain.specs.Answers.{done, placeNumber}
 use Rattle.chain.specs.Log.{ofLedger, entryLedger}
 use Rattle.chain.specs.Steps.{Step}
 use Rattle.chain.specs.Operations.{Buffers, held, IsLog, freshAnswer, logChecks, readLedgerChecks, readLedgerPart, readPlaceChecks, ledgerAt}
 use Rattle.chain.specs.Journal.{Journal}
 use Rattle.chain.specs.Values.{sum, sumOf, values}
-use Rattle.chain.specs.Promises.{after, told, Listed}
+use Rattle.chain.specs.LogPromise.{after, told, Listed}
 use Rattle.chain.specs.OrderPromise.{Ordered}
 use Rattle.totals.specs.declared.answer.SumAnswer.the-variants as sums
 use Rattle.totals.specs.declared.answer.TotalAnswer.the-variants as totals
@@ -73,7 +72,3 @@ pub record TotalsShowHistory : Type 0 where
   pub place-order : (p : ℕ) (b : Buffers) → Ordered (1 ∷ 2 ∷ 15 ∷ []) (readPlaceChecks p b) done (placeNumber (ledgerAt p b))
   pub sum-order : (l : ℕ) (b : Buffers) → Ordered (1 ∷ 2 ∷ 15 ∷ []) (readLedgerChecks l b) done (sumNumber (ledgerSum l b))
   pub total-order : (b : Buffers) → Ordered (1 ∷ 2 ∷ []) (logChecks b []) done (totalNumber (runTotal b))
-  -- 14 is not given here either.
-  pub place-never-fourteen : (p : ℕ) (b : Buffers) (r : Refusal) → ledgerAt p b ≡ listing.Refused r → refusalNumber r ≡ 14 → ⊥
-  pub sum-never-fourteen : (l : ℕ) (b : Buffers) (r : Refusal) → ledgerSum l b ≡ sums.Refused r → refusalNumber r ≡ 14 → ⊥
-  pub total-never-fourteen : (b : Buffers) (r : Refusal) → runTotal b ≡ totals.Refused r → refusalNumber r ≡ 14 → ⊥

@@ -12,8 +12,7 @@ use Rattle.checks.specs.TestLaws.{by-bool, holds-true}
 use Rattle.checks.specs.Checks.{_when_, passed-first, first-map, first-after}
 use Rattle.records.specs.declared.entry.Entry.{Entry}
 use Rattle.records.specs.Words.{ledgerNumber}
-use Rattle.chain.specs.declared.answer.Refusal.{Refusal}
-use Rattle.chain.specs.declared.answer.Refusal.the-variants.{NotListed, LedgerEmpty}
+use Rattle.chain.specs.declared.answer.Refusal.the-variants.{NotListed}
 use Rattle.chain.specs.declared.answer.Answer.{Answer}
 use Rattle.chain.specs.declared.answer.Answer.the-variants.{Done, WasClosed, Behind, Written, Refused}
 use Rattle.chain.specs.declared.answer.PlaceAnswer.the-variants as listing
@@ -23,14 +22,14 @@ use Rattle.chain.specs.Steps.{Step}
 use Rattle.chain.specs.Operations.{Buffers, held, IsLog, logChecks, stepAnswer, afterStep, afterSteps, freshAnswer, afterFresh, wordLedger, usedWords, readLedgerChecks, readLedgerPart, readPlaceChecks, ledgerAt, chainReading}
 use Rattle.chain.specs.Journal.{Journal, storedWord, chainWord}
 use Rattle.chain.specs.Values.{sum, sumOf, values}
-use Rattle.chain.specs.Promises.{after, told, Listed, Small, ShowsHistory}
-use Rattle.chain.specs.Theorems.{refusals-change-nothing, accepted-leaves-log, whole-history, not-given}
+use Rattle.chain.specs.LogPromise.{after, told, Listed, Small, ShowsHistory}
+use Rattle.chain.specs.LogTheorem.{refusals-change-nothing, accepted-leaves-log, whole-history}
 use Rattle.chain.specs.Laws.Formed.{capacity-most}
 use Rattle.chain.specs.Laws.Values.{sum-bound, sum-append, values-cleared, stored-values, chain-values}
 use Rattle.totals.specs.declared.answer.SumAnswer.the-variants as sums
 use Rattle.totals.specs.declared.answer.TotalAnswer.the-variants as totals
 use Rattle.totals.specs.Totals.{summed, ledgerSum, sumNumber, runSum, totalOf, runTotal, totalNumber}
-use Rattle.totals.specs.Sums.{part-within}
+use Rattle.totals.specs.SumLaws.{part-within}
 use Rattle.totals.specs.TotalsPromise.{greatestSum, partsAlong, writesAlong, SumsLog, SumsHistory, TotalsShowHistory}
 
 -- Where each ledger's part is its words, the sums of the ledgers are that of the words along the list.
@@ -204,25 +203,4 @@ totals-show-history = record {
   place-order = λ p b. record { in-order = refl; first-holds = first-map placeNumber (readPlaceChecks p b) listing.Refused _ };
   sum-order = λ l b. record { in-order = refl; first-holds = first-map sumNumber (readLedgerChecks l b) sums.Refused _ };
   total-order = λ b. record { in-order = refl; first-holds = first-map totalNumber (logChecks b []) totals.Refused _ };
-  place-never-fourteen = λ p b r. not-given LedgerEmpty (readPlaceChecks p b) listing.Refused _ r (λ q. same-place q r) (λ e. found r e) refl;
-  sum-never-fourteen = λ l b r. not-given LedgerEmpty (readLedgerChecks l b) sums.Refused _ r (λ q. same-sum q r) (λ e. counted r e) refl;
-  total-never-fourteen = λ b r. not-given LedgerEmpty (logChecks b []) totals.Refused _ r (λ q. same-total q r) (λ e. added r e) refl;
 }
-  where
-    same-place : (q r : Refusal) → listing.Refused q ≡ listing.Refused r → q ≡ r
-    same-place q r e = cc
-
-    same-sum : (q r : Refusal) → sums.Refused q ≡ sums.Refused r → q ≡ r
-    same-sum q r e = cc
-
-    same-total : (q r : Refusal) → totals.Refused q ≡ totals.Refused r → q ≡ r
-    same-total q r e = cc
-
-    found : {l : _} (r : Refusal) → listing.Ledger l ≡ listing.Refused r → ⊥
-    found r e = let z : _≡_ {A = ℕ} 0 1 = cc in omega arith
-
-    counted : {s : _} (r : Refusal) → sums.Sum s ≡ sums.Refused r → ⊥
-    counted r e = let z : _≡_ {A = ℕ} 0 1 = cc in omega arith
-
-    added : {t : _} (r : Refusal) → totals.Total t ≡ totals.Refused r → ⊥
-    added r e = let z : _≡_ {A = ℕ} 0 1 = cc in omega arith

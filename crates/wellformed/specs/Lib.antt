@@ -1,5 +1,5 @@
 pub mod EveryLaws
-pub mod Gathered
+pub mod GatheringLaws
 pub mod Parts
 pub mod Rising
 pub mod Lanes
@@ -8,5 +8,5 @@ pub mod PartLaws
 pub mod WordLaws
 pub mod Checked
 pub mod VerdictLaws
-pub mod LogVerdict
-pub mod ThirdBuffer
+pub mod LogVerdictLaws
+pub mod ThirdBufferLaws

@@ -1,4 +1,4 @@
 pub mod Left
-pub mod Walk
-pub mod Walking
-pub mod FirstWindow
+pub mod WalkLaws
+pub mod WalkingLaws
+pub mod FirstWindowLaws

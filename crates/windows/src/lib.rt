@@ -4,13 +4,11 @@ mod walk;
 
 use chain::answer::Refusal;
 use chain::answer::WindowAnswer;
+use limits::WINDOW_LIMIT;
 use wellformed::Checked;
 ghost use mathlib.Core.Path.{_≡_};
 ghost use Rattle.chain.specs.Operations.{buffers};
 ghost use Rattle.chain.specs.Windows.{firstWindow};
-
-// The most words of a window.
-const LONGEST: u64 = 256;
 
 // A window is `length` words of the reading in a row; it is over where the sum of their values is above the limit.
 pub fn first_window(state: &[u64], entries: &[u64], length: u64, limit: u64) -> WindowAnswer
@@ -23,7 +21,7 @@ pub fn first_window(state: &[u64], entries: &[u64], length: u64, limit: u64) -> 
             if length == 0 {
                 return WindowAnswer::Refused(Refusal::WindowLength);
             }
-            if LONGEST < length {
+            if WINDOW_LIMIT < length {
                 return WindowAnswer::Refused(Refusal::WindowLength);
             }
             walk::first_over(state, entries, h, length, limit)

@@ -8,19 +8,26 @@ ghost use mathlib.Core.Path.{_≡_};
 ghost use mathlib.Core.List.{map};
 ghost use Prim.Native.Nat.{_≤_};
 ghost use Rattle.chain.specs.Values.{valueOf};
-ghost use Rattle.chain.specs.Windows.{longestWindow, windowFrom};
+ghost use Rattle.limits.specs.Limits.{windowLimit};
+ghost use Rattle.chain.specs.Windows.{windowFrom};
 ghost use Rattle.readers.specs.Readable.{Readable};
 ghost use Rattle.readers.specs.Along.{chainWords};
 
 // The sum is kept from one start to the next: the first value is taken off, and the walk over the entries goes on where it was.
-pub fn first_over(state: &[u64], entries: &[u64], h: Head, length: u64, limit: u64) -> WindowAnswer
-    requires readable { ⌜ Readable (now state) (now entries) h ⌝ }
+pub fn first_over(
+    state: &[u64],
+    entries: &[u64],
+    head: Head,
+    length: u64,
+    limit: u64,
+) -> WindowAnswer
+    requires readable { ⌜ Readable (now state) (now entries) head ⌝ }
     requires some { ⌜ 1 ≤ length ⌝ }
-    requires few { ⌜ length ≤ longestWindow ⌝ }
-    ensures { λ r. ⌜ r ≡ windowFrom length limit 0 (map valueOf (chainWords (now (state .entry)) (now (entries .entry)) h)) ⌝ }
+    requires few { ⌜ length ≤ windowLimit ⌝ }
+    ensures { λ r. ⌜ r ≡ windowFrom length limit 0 (map valueOf (chainWords (now (state .entry)) (now (entries .entry)) head)) ⌝ }
 {
-    let count = h.entry_count as usize;
-    let listed = h.list_length;
+    let count = head.entry_count as usize;
+    let listed = head.list_length;
     let mut answer = WindowAnswer::None;
     let mut first = crate::cursor::begin();
     let mut past = crate::cursor::begin();

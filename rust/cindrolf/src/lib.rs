@@ -237,6 +237,7 @@ mod answer;
 pub mod calls;
 mod capacity;
 mod error;
+mod limits;
 mod log;
 mod mark;
 mod plan;
@@ -254,6 +255,10 @@ pub use answer::{
 };
 pub use capacity::Capacity;
 pub use error::{Error, Refusal, Said};
+pub use limits::{
+    CLIENT_LIMIT, ENTRY_WORDS, MARK_WORDS, MARKS_LIMIT, REARRANGE_LIMIT, RIGHTS_WORDS, SCORE_LIMIT, SCORES_LIMIT,
+    SMALL_ENTRY_WORDS, STATE_WORDS, TEXT_BYTES, VALUE_LIMIT, WINDOW_LIMIT,
+};
 pub use log::{Log, LogMut, LogRef, PermittedLog};
 pub use mark::MarkName;
 pub use plan::{Forecast, Step, StepWord};
@@ -262,33 +267,6 @@ pub use storage::{rearrange, restore};
 pub use total::{LedgerSum, RunTotal};
 pub use version::{VERSION, check_version};
 pub use view::{Client, Entry, Ledger, ListPlace, Remembered, Stage, View};
-
-/// Words in a state buffer.
-pub const STATE_WORDS: usize = 527;
-/// Words in an entry buffer.
-pub const ENTRY_WORDS: usize = 4096;
-/// Words in the entry buffer of a small cartridge.
-pub const SMALL_ENTRY_WORDS: usize = 512;
-/// The most clients that a log serves.
-pub const MAX_CLIENTS: u64 = 16;
-/// The largest value that an entry holds.
-pub const MAX_VALUE: u64 = (1 << 52) - 1;
-/// The most scores that one write takes.
-pub const SCORES_LIMIT: usize = 4000;
-/// The highest score.
-pub const HIGHEST_SCORE: u16 = 372;
-/// Words in a marks buffer.
-pub const MARK_WORDS: usize = 64;
-/// The most marks that a marks buffer keeps.
-pub const MARKS_LIMIT: usize = 32;
-/// Words in a rights buffer, one for each client that a log can have.
-pub const RIGHTS_WORDS: usize = 16;
-/// The most words of a window.
-pub const LONGEST_WINDOW: u64 = 256;
-/// The most words that are rearranged at once.
-pub const REARRANGE_LIMIT: usize = 4096;
-/// The fewest bytes of a text buffer. Every sentence fits them.
-pub const TEXT_BYTES: usize = 96;
 
 /// The ledger number in an entry's word. The words that read chain and a reading at a mark write have none.
 pub const fn ledger_of(word: u64) -> Option<LedgerNumber> {
@@ -305,5 +283,5 @@ pub const fn client_of(word: u64) -> u64 {
 
 /// The value in an entry's word.
 pub const fn value_of(word: u64) -> u64 {
-    word & MAX_VALUE
+    word & VALUE_LIMIT
 }

@@ -240,7 +240,7 @@ impl<'a> LogRef<'a> {
     }
 
     /// Where the first window of the chain reading starts whose values come to more than the limit, or none. A window
-    /// is `length` words of the reading in a row, 1 to [`LONGEST_WINDOW`](crate::LONGEST_WINDOW).
+    /// is `length` words of the reading in a row, 1 to [`WINDOW_LIMIT`](crate::WINDOW_LIMIT).
     ///
     /// ```
     /// use cindrolf::{Log, ReadingPlace};
@@ -405,7 +405,7 @@ macro_rules! operations {
 
             /// The client adds an entry to its ledger whose value is the sum of the parts of these scores, and is
             /// answered as by [`write`](Self::write). There are 1 to [`SCORES_LIMIT`](crate::SCORES_LIMIT) scores, none
-            /// above [`HIGHEST_SCORE`](crate::HIGHEST_SCORE); of any others a refusal says so.
+            /// above [`SCORE_LIMIT`](crate::SCORE_LIMIT); of any others a refusal says so.
             pub fn write_scores(&mut self, client: u64, scores: &[u16]) -> Result<Position, Error> {
                 calls::write_scores(&mut self.state, &mut self.entries, client, scores)
             }
@@ -478,7 +478,7 @@ macro_rules! operations {
             }
 
             /// Where the first window of the chain reading starts whose values come to more than the limit, or none. A
-            /// window is `length` words of the reading in a row, 1 to [`LONGEST_WINDOW`](crate::LONGEST_WINDOW).
+            /// window is `length` words of the reading in a row, 1 to [`WINDOW_LIMIT`](crate::WINDOW_LIMIT).
             pub fn first_window(&self, length: u64, limit: u64) -> Result<Option<ReadingPlace>, Error> {
                 self.as_ref().first_window(length, limit)
             }

@@ -1,6 +1,6 @@
 //! Steps as words, which a plan is made of, and what a run of it adds.
 
-use crate::{Error, MAX_VALUE, Refusal, value_of};
+use crate::{Error, Refusal, VALUE_LIMIT, value_of};
 
 /// A step that a plan can have. A write of scores is none of them.
 #[derive(Clone, Copy, Debug, PartialEq, Eq, Hash)]
@@ -91,7 +91,7 @@ impl StepWord {
         if client > 255 {
             return Err(Error::Refused(Refusal::UnknownClient));
         }
-        if value > MAX_VALUE {
+        if value > VALUE_LIMIT {
             return Err(Error::Refused(Refusal::ValueTooWide));
         }
         Ok(StepWord(step.number() << 60 | client << 52 | value))

@@ -1,6 +1,6 @@
 //! The rights of the clients, which are lent with a step.
 
-use crate::{Error, MAX_CLIENTS, RIGHTS_WORDS, Refusal};
+use crate::{CLIENT_LIMIT, Error, RIGHTS_WORDS, Refusal};
 
 /// The right of a client to one kind of step.
 #[derive(Clone, Copy, Debug, PartialEq, Eq, Hash, PartialOrd, Ord)]
@@ -103,7 +103,7 @@ impl Rights {
     /// # Ok::<(), Error>(())
     /// ```
     pub fn all(client_count: u64) -> Result<Self, Error> {
-        if client_count == 0 || client_count > MAX_CLIENTS {
+        if client_count == 0 || client_count > CLIENT_LIMIT {
             return Err(Refusal::ClientCount.into());
         }
         let mut rights = Self::none();

@@ -5,8 +5,8 @@ use cindrolf::{
     LogRef, MarkName, Position, Progress,
 };
 use cindrolf::{
-    HIGHEST_SCORE, MARK_WORDS, MARKS_LIMIT, RIGHTS_WORDS, Refusal, Right, Rights, SCORES_LIMIT, STATE_WORDS, Stage,
-    Step, StepWord, calls, ledger_of, value_of,
+    MARK_WORDS, MARKS_LIMIT, RIGHTS_WORDS, Refusal, Right, Rights, SCORE_LIMIT, SCORES_LIMIT, STATE_WORDS, Stage, Step,
+    StepWord, calls, ledger_of, value_of,
 };
 
 fn refused<T>(refusal: Refusal) -> Result<T, Error> {
@@ -211,7 +211,7 @@ fn scores() {
     };
     assert_eq!(written(&[0]), 1_000_000_000_000);
     assert_eq!(written(&[40]), 100_000_000_000);
-    assert_eq!(written(&[HIGHEST_SCORE]), 501);
+    assert_eq!(written(&[SCORE_LIMIT]), 501);
     assert_eq!(written(&[0, 40, 372, 40]), 1_200_000_000_501);
     assert_eq!(written(&[0; SCORES_LIMIT]), 4_000_000_000_000_000);
     assert_eq!(written(&[372; SCORES_LIMIT]), 2_004_000);
@@ -227,7 +227,7 @@ fn refused_scores() {
         assert_eq!(log.write_scores(client, &[]), refused(Refusal::ScoreCount));
         assert_eq!(log.write_scores(client, &[0; SCORES_LIMIT + 1]), refused(Refusal::ScoreCount));
         assert_eq!(log.write_scores(client, &[373; SCORES_LIMIT + 1]), refused(Refusal::ScoreCount));
-        assert_eq!(log.write_scores(client, &[HIGHEST_SCORE + 1]), refused(Refusal::ScoreTooHigh));
+        assert_eq!(log.write_scores(client, &[SCORE_LIMIT + 1]), refused(Refusal::ScoreTooHigh));
         let mut last = [0; SCORES_LIMIT];
         last[SCORES_LIMIT - 1] = u16::MAX;
         assert_eq!(log.write_scores(client, &last), refused(Refusal::ScoreTooHigh));

@@ -1,8 +1,8 @@
 //! The list and the totals: of a handover, of words that no fresh log leads to, and of no log.
 
 use cindrolf::{
-    ENTRY_WORDS, Error, LedgerNumber, LedgerSum, ListPlace, Log, LogMut, LogRef, MAX_VALUE, Refusal, RunTotal,
-    STATE_WORDS, Step,
+    ENTRY_WORDS, Error, LedgerNumber, LedgerSum, ListPlace, Log, LogMut, LogRef, Refusal, RunTotal, STATE_WORDS, Step,
+    VALUE_LIMIT,
 };
 
 const NOT_LISTED: Error = Error::Refused(Refusal::NotListed);
@@ -49,7 +49,7 @@ fn of_a_ledger_that_is_listed_255_times() {
     state[1] = 0x0800_0200_0000_0000;
     state[17] = 1 << 63;
     state[272..].fill(1 << 56);
-    let mut entries = [(1 << 56) | MAX_VALUE; ENTRY_WORDS];
+    let mut entries = [(1 << 56) | VALUE_LIMIT; ENTRY_WORDS];
     let total = RunTotal { ones: 4_703_919_738, parts: 795_934_617_600, rounded: 4_703_919_738_796 };
     let sum = LedgerSum { entries: 4_096, sum: 18_446_744_073_709_547_520 };
 

@@ -48,10 +48,10 @@ fn all_inputs() -> io::Result<Expected> {
 pub fn all() -> io::Result<Vec<Expected>> {
     let mut all = vec![
         all_inputs()?,
-        printed(session::transcript, "crates/cindrolf/stdin", "crates/cindrolf/stdout")?,
-        printed(total::output, "crates/cindrolf_total/stdin", "crates/cindrolf_total/stdout")?,
+        printed(session::transcript, "crates/session_program/stdin", "crates/session_program/stdout")?,
+        printed(total::output, "crates/total_program/stdin", "crates/total_program/stdout")?,
         // The C example takes the same session and prints it in the same way.
-        printed(session::transcript, "crates/cindrolf/stdin", "examples/c/session.out")?,
+        printed(session::transcript, "crates/session_program/stdin", "examples/c/session.out")?,
         Expected { file: "crates/histories/stdout".into(), text: histories::counts() },
     ];
     let mut names: Vec<_> = fs::read_dir(root().join("examples"))?.collect::<io::Result<_>>()?;

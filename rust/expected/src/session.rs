@@ -5,7 +5,7 @@ use model::{Answer, Step};
 use std::fmt::Write;
 
 /// The most bytes that a session has.
-pub const MOST_BYTES: usize = 16_384;
+pub const INPUT_LIMIT: usize = 16_384;
 
 /// A session's client count, and its lines; the last is none where it lacks its line end.
 pub struct Session<'a> {
@@ -25,7 +25,7 @@ fn number(digits: &[u8], most: u64) -> Option<u64> {
 impl<'a> Session<'a> {
     /// The session in these bytes, or all that is printed of it.
     pub fn read(input: &'a [u8]) -> Result<Self, &'static str> {
-        if input.len() > MOST_BYTES {
+        if input.len() > INPUT_LIMIT {
             return Err("too long\n");
         }
         let mut lines = input.split_inclusive(|&byte| byte == b'\n').map(|line| line.strip_suffix(b"\n"));

@@ -3,7 +3,7 @@
 use crate::failure::Failure;
 use crate::steps::Manner;
 use crate::{marks, names};
-use cindrolf::{Capacity, MAX_CLIENTS, MarkName, Right};
+use cindrolf::{CLIENT_LIMIT, Capacity, MarkName, Right};
 use std::ffi::{OsStr, OsString};
 use std::os::unix::ffi::{OsStrExt, OsStringExt};
 use std::path::PathBuf;
@@ -155,8 +155,8 @@ impl Words {
 
     fn clients(&mut self) -> Result<u64, String> {
         let text = self.next("CLIENTS")?;
-        let clients = session::number(text.as_bytes(), MAX_CLIENTS).filter(|&clients| clients > 0);
-        clients.ok_or(format!("CLIENTS is 1 to {MAX_CLIENTS}, not '{}'", text.display()))
+        let clients = session::number(text.as_bytes(), CLIENT_LIMIT).filter(|&clients| clients > 0);
+        clients.ok_or(format!("CLIENTS is 1 to {CLIENT_LIMIT}, not '{}'", text.display()))
     }
 
     fn client(&mut self) -> Result<u64, String> {

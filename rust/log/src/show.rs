@@ -41,7 +41,7 @@ fn created(latest: Latest<'_>) -> Result<u64, Error> {
 
 fn clients(latest: Latest<'_>) -> Result<String, Error> {
     let view = latest.view()?;
-    let mut entries = [0; cindrolf::MAX_CLIENTS as usize];
+    let mut entries = [0; cindrolf::CLIENT_LIMIT as usize];
     for word in latest.chain()? {
         entries[client_of(word) as usize] += 1;
     }

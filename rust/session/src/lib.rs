@@ -6,12 +6,12 @@ use cindrolf::{Answer, Error, RunTotal, Step};
 use std::fmt;
 
 /// The most bytes that a session has.
-pub const MOST_BYTES: usize = 16_384;
+pub const INPUT_LIMIT: usize = 16_384;
 
 /// Why a text is no session. Its text is all that the session program prints then.
 #[derive(Clone, Copy, Debug, PartialEq, Eq)]
 pub enum NoSession {
-    /// It has more than [`MOST_BYTES`].
+    /// It has more than [`INPUT_LIMIT`].
     TooLong,
     /// The first line is no client count of 1 to 16.
     BadStart,
@@ -49,7 +49,7 @@ pub struct Line<'a> {
 impl<'a> Session<'a> {
     /// The session in these bytes.
     pub fn read(input: &'a [u8]) -> Result<Self, NoSession> {
-        if input.len() > MOST_BYTES {
+        if input.len() > INPUT_LIMIT {
             return Err(NoSession::TooLong);
         }
         let mut lines = input.split_inclusive(|&byte| byte == b'\n').map(|line| match line.strip_suffix(b"\n") {

@@ -1,4 +1,10 @@
 //! A copy of a log's file, made while others write.
+//!
+//! A copy is renamed, and never linked. `renameat2` with `RENAME_NOREPLACE` gives the name only where nobody has it,
+//! and leaves one name; where the file system has none, an empty file holds the name for a plain rename.
+//!
+//! Which file a failed copy is blamed on. SQLite does not say which of the two failed. The log is checked then: if it
+//! holds together, the copy is at fault.
 
 use crate::database::{Fault, Value};
 use crate::file_name::{self, rename_new};

@@ -1,7 +1,7 @@
 //! The process's own copy of the log in the file, as of a row of the journal.
 
 use crate::journal::{FIRST_CHECKSUM, Input, Kind, MOST_WORDS, Record, Word, of_step};
-use crate::{Error, MOST_ROWS};
+use crate::{Error, ROW_LIMIT};
 use cindrolf::{
     Answer, Capacity, Log, LogMut, LogRef, MARK_WORDS, MarkName, PermittedLog, Refusal, Rights, STATE_WORDS,
 };
@@ -157,8 +157,8 @@ impl LogCopy {
         if seq != self.seq + 1 {
             return Err(Error::Damaged(format!("row {} of its journal is missing", self.seq + 1)));
         }
-        if seq > MOST_ROWS {
-            return Err(Error::Damaged(format!("its journal has more than {MOST_ROWS} rows")));
+        if seq > ROW_LIMIT {
+            return Err(Error::Damaged(format!("its journal has more than {ROW_LIMIT} rows")));
         }
         if record.checksum(self.checksum, seq) != checksum {
             return Err(Error::Damaged(format!("row {seq} of its journal was changed")));

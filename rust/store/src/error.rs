@@ -35,7 +35,7 @@ pub enum Error {
     NoLog(String),
     /// The file is a log that does not hold together. This is where.
     Damaged(String),
-    /// The journal has [`MOST_ROWS`](crate::MOST_ROWS), the most that it takes.
+    /// The journal has [`ROW_LIMIT`](crate::ROW_LIMIT), the most that it takes.
     JournalFull,
     /// The store was opened in another process, and this one is forked from that. It has to open the file itself.
     Forked,
@@ -128,7 +128,7 @@ impl fmt::Display for Error {
             Error::Unfit(why) => write!(f, "no log can be kept there: {why}"),
             Error::NoLog(why) => write!(f, "it is no run log of this version: {why}"),
             Error::Damaged(why) => write!(f, "the log is damaged: {why}"),
-            Error::JournalFull => write!(f, "the log has {} steps, the most that one takes", crate::MOST_ROWS),
+            Error::JournalFull => write!(f, "the log has {} steps, the most that one takes", crate::ROW_LIMIT),
             Error::Forked => f.write_str("the log was opened before this process was forked; open it here as well"),
             Error::Replaced => f.write_str("the file was removed or replaced since it was opened"),
             Error::ReadOnly => f.write_str("the log was opened to read only"),

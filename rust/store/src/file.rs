@@ -1,4 +1,12 @@
 //! The files of a log on the disk: which ones they are, and whether their names still lead to them.
+//!
+//! The name of the write-ahead log is looked at after each call, and the file's own before it: one system call more for
+//! a step, some 0.6 µs. To look at `-shm` as well would be another; it goes only where somebody removes it by hand. A
+//! connection whose write-ahead log has lost its name is closed without copying, since others may have gone on without
+//! it.
+//!
+//! A store that has to read the file from the beginning must find the last row that it had read or stored, with its
+//! checksum. So a controller that goes on running finds steps that were lost with a removed file.
 
 use crate::Error;
 use crate::database::{Database, Fault};

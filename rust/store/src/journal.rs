@@ -1,4 +1,19 @@
 //! A row of the journal: a step that was accepted, or a change of marks or rights.
+//!
+//! A shared log is a journal of rows, and not its words. One row for each step, with the words that it changed, is one
+//! page a commit, replays, and tells a stale copy from the file by its key. A row for each word changes several pages a
+//! commit, and the two buffers as one value each are rewritten whole.
+//!
+//! The journal has a limit, and is not compacted. A million rows open in half a second, so a snapshot would gain
+//! little, and `check` would no longer replay from the fresh log. What can be repeated without end is stopped by the
+//! limit, as ledger numbers and entries are by theirs.
+//!
+//! Marks and rights are rows of the same journal. So they are ordered with the steps, replayed with them, and come to
+//! another process by the same way. A change of rights is one row a client.
+//!
+//! Each row has a checksum that goes on from the row before. Taking the steps once more finds a changed value or
+//! answer, but not a changed name of a mark, nor a right that nobody used. FNV-1a by words finds any change within a
+//! word for certain; it is no protection against forgery.
 
 use crate::database::{Row, Value};
 use cindrolf::{Answer, MarkName, Step};

@@ -80,4 +80,4 @@ pub use wait::end_waiting;
 /// The most rows that a journal takes. A log that is filled with reads has some six thousand. Only steps that are taken
 /// over and over, such as naming one leader and then another, come near: a controller that does so without end is to be
 /// stopped before the file fills the disk, and before it takes long to open.
-pub const MOST_ROWS: i64 = 1_000_000;
+pub const ROW_LIMIT: i64 = 1_000_000;

@@ -5,7 +5,7 @@ use crate::database::{Database, Mode, Statement, Value};
 use crate::file::{Beside, FileNumber};
 use crate::journal::{COLUMNS, Input, Kind, Record};
 use crate::latest::Latest;
-use crate::{Error, LastRow, MOST_ROWS, Stored, cause, engine, file, file_name, place, schema};
+use crate::{Error, LastRow, ROW_LIMIT, Stored, cause, engine, file, file_name, place, schema};
 use cindrolf::{
     Answer, Capacity, CloseLast, Finish, MarkName, Position, Progress, Refusal, Right, Rights, Step, StepWord,
 };
@@ -603,7 +603,7 @@ impl Change<'_> {
     }
 
     fn room(&self) -> Result<(), Error> {
-        if self.copy.seq < MOST_ROWS { Ok(()) } else { Err(Error::JournalFull) }
+        if self.copy.seq < ROW_LIMIT { Ok(()) } else { Err(Error::JournalFull) }
     }
 
     fn add(&mut self, record: &Record) -> Result<(), Error> {

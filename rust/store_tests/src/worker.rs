@@ -4,7 +4,7 @@ use crate::answered::Answered;
 use crate::calls;
 use crate::notes::{self, Note, Notes, Refused, sum};
 use crate::shared::{RememberingStore, Shared, WordStore, open_store};
-use cindrolf::{Answer, Capacity, LedgerNumber, MAX_VALUE, Refusal, Stage, Step};
+use cindrolf::{Answer, Capacity, LedgerNumber, Refusal, Stage, Step, VALUE_LIMIT};
 use model::random::Random;
 use std::path::{Path, PathBuf};
 use std::time::Duration;
@@ -148,7 +148,7 @@ impl Worker {
     fn any_step(&mut self, ledger: Option<LedgerNumber>) -> Result<(), Error> {
         match self.random.below(13) {
             8 => self.write(),
-            10 => self.take(self.number, Step::Write(MAX_VALUE + 1)).map(drop),
+            10 => self.take(self.number, Step::Write(VALUE_LIMIT + 1)).map(drop),
             11 => self.take(self.clients, Step::Write(1)).map(drop),
             12 => self.take(255, Step::Name).map(drop),
             number => self.other_step(Step::from_number(number, 0).expect("one of ten"), ledger),

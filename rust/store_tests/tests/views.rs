@@ -1,8 +1,8 @@
 //! The views of a log's file, against what the library reads.
 
 use cindrolf::{
-    Capacity, Client, EntryNumber, Ledger, LedgerNumber, MAX_VALUE, Right, Stage, Step, StepWord, client_of, ledger_of,
-    value_of,
+    Capacity, Client, EntryNumber, Ledger, LedgerNumber, Right, Stage, Step, StepWord, VALUE_LIMIT, client_of,
+    ledger_of, value_of,
 };
 use model::random::Random;
 use std::path::Path;
@@ -134,7 +134,7 @@ fn steps(random: &mut Random, clients: u64, count: usize) -> Vec<StepWord> {
     while plan.len() < count {
         let (client, length) = (random.below(clients), random.between(1, lead.len() as u64));
         for &step in &lead[..length as usize] {
-            let value = if random.chance(20) { MAX_VALUE } else { random.below(1 << 40) };
+            let value = if random.chance(20) { VALUE_LIMIT } else { random.below(1 << 40) };
             let step = if matches!(step, Write(_)) { Write(value) } else { step };
             plan.push(StepWord::new(client, step).unwrap());
             if random.chance(10) {
@@ -204,7 +204,7 @@ fn a_full_log() {
     for turn in 0..255 {
         let client = turn % 16;
         let lead = [Step::Name, Step::Become, Step::Fetch, Step::CloseLast, Step::Finish, Step::Create, Step::Append];
-        let writes = [Step::Write(MAX_VALUE); 17];
+        let writes = [Step::Write(VALUE_LIMIT); 17];
         let leave = [(client + 1) % 16].map(|next| StepWord::new(next, Step::Name).unwrap());
         plan.extend(lead.into_iter().chain(writes).map(|step| StepWord::new(client, step).unwrap()));
         plan.extend(leave);
@@ -232,7 +232,7 @@ fn the_example_of_the_reference() {
     let file = room.file("run.db");
     let mut store = Store::create(&file, 1, Capacity::Large).unwrap();
     let lead = [Step::Become, Step::Fetch, Step::Create, Step::Append];
-    let plan: Vec<_> = lead.into_iter().chain([Step::Write(MAX_VALUE); 4_096]).collect();
+    let plan: Vec<_> = lead.into_iter().chain([Step::Write(VALUE_LIMIT); 4_096]).collect();
     let plan: Vec<_> = plan.into_iter().map(|step| StepWord::new(0, step).unwrap()).collect();
     store.run_plan(&plan, u64::MAX).unwrap();
     let reference = concat!(env!("CARGO_MANIFEST_DIR"), "/../../docs/REFERENCE.md");

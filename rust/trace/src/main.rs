@@ -13,7 +13,7 @@ type Failure = (u8, String);
 /// The file's bytes, as far as they can matter: one more than a session has is enough to be too long.
 fn bytes(file: &Path) -> io::Result<Vec<u8>> {
     let mut bytes = Vec::new();
-    File::open(file)?.take(session::MOST_BYTES as u64 + 1).read_to_end(&mut bytes)?;
+    File::open(file)?.take(session::INPUT_LIMIT as u64 + 1).read_to_end(&mut bytes)?;
     Ok(bytes)
 }
 

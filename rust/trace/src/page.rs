@@ -11,7 +11,7 @@ const STYLE: &str = include_str!("page.css");
 const SCRIPT: &str = include_str!("page.js");
 
 /// The most steps whose static picture is part of the page. Beyond it there is the list alone.
-pub const MOST_DRAWN: usize = 200;
+pub const DRAWN_LIMIT: usize = 200;
 
 /// How many steps a part of the list has.
 const PART: usize = 200;
@@ -96,9 +96,9 @@ fn session(name: &str, frames: &Frames) -> String {
 
 /// The static picture, where it is not too long.
 fn still(name: &str, frames: &Frames) -> String {
-    if frames.frames.len() > MOST_DRAWN {
+    if frames.frames.len() > DRAWN_LIMIT {
         return format!(
-            "<p>The session has more than {MOST_DRAWN} steps: <code>./trace --svg</code> draws them all.</p>\n"
+            "<p>The session has more than {DRAWN_LIMIT} steps: <code>./trace --svg</code> draws them all.</p>\n"
         );
     }
     svg::drawing(name, frames)

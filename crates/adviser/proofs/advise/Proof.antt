@@ -1,7 +1,7 @@
 -- `advise` meets its contract.
 use borrow.Author.Needs.{needs}
 use Rattle.chain.specs.Operations.{buffers}
-use Rattle.adviser.specs.Advised.{no-log, unknown, opened, known}
+use Rattle.adviser.specs.AdviserLaws.{no-log, unknown, opened, known}
 use Rattle.adviser.proofs.advise.Statement.{statement}
 use Rattle.adviser.proofs.advise.Tie as tie
 

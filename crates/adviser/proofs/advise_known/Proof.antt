@@ -1,7 +1,7 @@
 -- `advise_known` meets its contract.
 use borrow.Author.Needs.{needs}
-use Rattle.lookup.specs.Looks.{client, opened-log, few-clients, remembered-small, leader-is, client-is, remembered-is}
-use Rattle.adviser.specs.Advised.{looked-up}
+use Rattle.lookup.specs.LookupLaws.{client, opened-log, few-clients, remembered-small, leader-is, client-is, remembered-is}
+use Rattle.adviser.specs.AdviserLaws.{looked-up}
 use Rattle.adviser.proofs.advise_known.Statement.{statement}
 use Rattle.adviser.proofs.advise_known.Tie as tie
 

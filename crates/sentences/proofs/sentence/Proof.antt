@@ -1,8 +1,8 @@
 -- `sentence` meets its contract.
 use native.Mathlib.Omega.{arith}
 use borrow.Author.Needs.{needs}
-use Rattle.sentences.specs.Lengths.{some-refusal}
-use Rattle.sentences.specs.Said.{too-short, not-said, known, room, said}
+use Rattle.sentences.specs.LengthLaws.{some-refusal}
+use Rattle.sentences.specs.SaidLaws.{too-short, not-said, known, room, said}
 use Rattle.sentences.proofs.sentence.Statement.{statement}
 use Rattle.sentences.proofs.sentence.Tie as tie
 

@@ -1,7 +1,7 @@
 -- `transcript` meets its contract.
 use native.Mathlib.Omega.{arith}
 use Rattle.text.specs.Lent.{too-short, room-for-all, printed}
-use Rattle.session.specs.Lengths.{transcript-length}
+use Rattle.session.specs.LengthLaws.{transcript-length}
 use borrow.Author.Needs.{needs}
 use Rattle.session.proofs.transcript.Statement.{statement}
 use Rattle.session.proofs.transcript.Tie as tie

@@ -1,7 +1,7 @@
 -- The entries of the table that compare numbers.
 use Prim.Native.Nat.{ℕ, _<_, _≤_}
 use mathlib.Core.Path.{_≡_}
-use Rattle.checks.specs.Test.{most, same}
+use Rattle.checks.specs.Test.{atMost, same}
 use Rattle.checks.specs.TestLaws.{holds-true, fails-false}
 use Rattle.sharing.specs.declared.controller.Phase.the-variants as phases
 use Rattle.sharing.specs.declared.controller.Act.the-variants as acts
@@ -22,7 +22,7 @@ module _ (id there : ℕ) where
 
 module _ (id n place : ℕ) where
   pub placed-next : place ≤ n → whenPlaced id n place ≡ to phases.Idle acts.Tell
-  placed-next h = rw (holds-true (most place n) h)
+  placed-next h = rw (holds-true (atMost place n) h)
 
   pub placed-further : n < place → whenPlaced id n place ≡ to (phases.Waiting id) whenBetween
-  placed-further h = rw (fails-false (most place n) h)
+  placed-further h = rw (fails-false (atMost place n) h)

@@ -1,7 +1,7 @@
 -- `run_total` meets its contract.
 use native.Mathlib.Omega.{arith}
 use Rattle.text.specs.Lent.{too-short, room-for-all, printed}
-use Rattle.total.specs.Lengths.{output-length}
+use Rattle.total.specs.LengthLaws.{output-length}
 use borrow.Author.Needs.{needs}
 use Rattle.total.proofs.run_total.Statement.{statement}
 use Rattle.total.proofs.run_total.Tie as tie

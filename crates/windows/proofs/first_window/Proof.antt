@@ -2,7 +2,7 @@
 use native.Mathlib.Omega.{arith}
 use borrow.Author.Needs.{needs}
 use Rattle.readers.specs.Readable.{log-readable}
-use Rattle.windows.specs.FirstWindow.{window-refused, window-none, window-long, window-found}
+use Rattle.windows.specs.FirstWindowLaws.{window-refused, window-none, window-long, window-found}
 use Rattle.windows.proofs.first_window.Statement.{statement}
 use Rattle.windows.proofs.first_window.Tie as tie
 

@@ -1,7 +1,7 @@
 -- `drop_mark` meets its contract.
 use native.Mathlib.Omega.{arith}
 use borrow.Author.Needs.{needs}
-use Rattle.marks.specs.Outcome.{drop-refuses, kept-long, kept-there, drop-done}
+use Rattle.marks.specs.OutcomeLaws.{drop-refuses, kept-long, kept-there, drop-done}
 use Rattle.marks.proofs.drop.drop_mark.Statement.{statement}
 use Rattle.marks.proofs.drop.drop_mark.Tie as tie
 

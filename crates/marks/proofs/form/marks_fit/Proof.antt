@@ -6,7 +6,7 @@ use borrow.Author.Tests.{not-true, not-false}
 use borrow.Author.Needs.{needs}
 use Rattle.chain.specs.Marks.{pairsOf, wellMarked}
 use Rattle.marks.specs.Pairs.{pairCount, rest, rest-all}
-use Rattle.marks.specs.Form.{from-zero, wrong-count, twice, well-turn, well-end}
+use Rattle.marks.specs.FormLaws.{from-zero, wrong-count, twice, well-turn, well-end}
 use Rattle.marks.proofs.form.marks_fit.Statement.{statement}
 use Rattle.marks.proofs.form.marks_fit.Tie as tie
 

@@ -1,8 +1,8 @@
 -- `kept_verdict` meets its contract.
 use native.Mathlib.Omega.{arith}
 use borrow.Author.Needs.{needs}
-use Rattle.marks.specs.MarksVerdict.{passes-marked}
-use Rattle.marks.specs.Decided.{drop-refused, drop-passes, drop-unkept}
+use Rattle.marks.specs.MarksVerdictLaws.{passes-marked}
+use Rattle.marks.specs.DecidedLaws.{drop-refused, drop-passes, drop-unkept}
 use Rattle.marks.proofs.verdict.kept_verdict.Statement.{statement}
 use Rattle.marks.proofs.verdict.kept_verdict.Tie as tie
 

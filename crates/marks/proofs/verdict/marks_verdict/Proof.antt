@@ -1,7 +1,7 @@
 -- `marks_verdict` meets its contract.
 use mathlib.Core.Path.{sym, _∙_}
 use borrow.Author.Needs.{needs}
-use Rattle.marks.specs.MarksVerdict.{wrong-length, no-log, wrong-marks, marks-pass}
+use Rattle.marks.specs.MarksVerdictLaws.{wrong-length, no-log, wrong-marks, marks-pass}
 use Rattle.marks.proofs.verdict.marks_verdict.Statement.{statement}
 use Rattle.marks.proofs.verdict.marks_verdict.Tie as tie
 

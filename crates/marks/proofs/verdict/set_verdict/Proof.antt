@@ -1,8 +1,8 @@
 -- `set_verdict` meets its contract.
 use native.Mathlib.Omega.{arith}
 use borrow.Author.Needs.{needs}
-use Rattle.marks.specs.MarksVerdict.{passes-marked}
-use Rattle.marks.specs.Decided.{set-refused, set-taken, set-passes, set-full}
+use Rattle.marks.specs.MarksVerdictLaws.{passes-marked}
+use Rattle.marks.specs.DecidedLaws.{set-refused, set-taken, set-passes, set-full}
 use Rattle.marks.proofs.verdict.set_verdict.Statement.{statement}
 use Rattle.marks.proofs.verdict.set_verdict.Tie as tie
 

@@ -2,7 +2,7 @@
 use Prim.Native.Nat.{_-_}
 use mathlib.Core.Path.{_≡_, refl, _∙_}
 use lib.ListN.{length, getD, take, length-set}
-use Rattle.plans.specs.Copies.{copied-more, copied-all}
+use Rattle.plans.specs.CopyLaws.{copied-more, copied-all}
 use borrow.Author.Needs.{needs}
 use Rattle.plans.proofs.copy.copy_words.Statement.{statement}
 use Rattle.plans.proofs.copy.copy_words.Tie as tie

@@ -11,8 +11,8 @@ planned-step-requires c κs = search needs
 enum-known-planned : tie.Need-enum-known-planned
 enum-known-planned c = search needs
 
-take-step-requires : tie.Need-take-step-requires
-take-step-requires c κs = search needs
+check-and-take-requires : tie.Need-check-and-take-requires
+check-and-take-requires c κs = search needs
 
 enum-told : tie.Need-enum-told
 enum-told c = search needs
@@ -27,7 +27,7 @@ returns : tie.Need-returns
 returns c =
     let at-entry = c .before .before .before .before .before .before .before .before .before .before .before .before .before .before in
     step-word (at-entry .args .rights .now) (at-entry .args .word) _ (c .before .before .before .before .before .before .before .before .before .before .planned-step .ensures) (buffers (at-entry .args .state .now) (at-entry .args .entries .now)) _
-    (c .before .before .before .before .before .before .before .before .planned .given .1) (c .before .before .before .before .take-step .ensures)
+    (c .before .before .before .before .before .before .before .before .planned .given .1) (c .before .before .before .before .check-and-take .ensures)
 
 returns-2 : tie.Need-returns-2
 returns-2 c =
@@ -41,7 +41,7 @@ take-planned-spec =
     (tie.spec
     planned-step-requires
     enum-known-planned
-    take-step-requires
+    check-and-take-requires
     enum-told
     same-length
     same-length-2

@@ -7,8 +7,8 @@ use Rattle.requests.proofs.line.answer_request.Tie as tie
 enum-known-request : tie.Need-enum-known-request
 enum-known-request c = search needs
 
-take-step-requires : tie.Need-take-step-requires
-take-step-requires c κs = search needs
+check-and-take-requires : tie.Need-check-and-take-requires
+check-and-take-requires c κs = search needs
 
 enum-told : tie.Need-enum-told
 enum-told c = search needs
@@ -21,9 +21,9 @@ same-length-2 c = search needs
 
 returns : tie.Need-returns
 returns c =
-    let at-take-step = c .before .before .before .before in
-    let at-request = at-take-step .before .before .before .before in
-    rw (at-request .request .given .1) (took _ _ _ _ _ _ (at-take-step .take-step .ensures))
+    let at-check-and-take = c .before .before .before .before in
+    let at-request = at-check-and-take .before .before .before .before in
+    rw (at-request .request .given .1) (took _ _ _ _ _ _ (at-check-and-take .check-and-take .ensures))
 
 returns-2 : tie.Need-returns-2
 returns-2 c = rw (c .enum-told .given .1) (took-none _ _ _)
@@ -33,7 +33,7 @@ answer-request-spec =
     tie.close
     (tie.spec
     enum-known-request
-    take-step-requires
+    check-and-take-requires
     enum-told
     same-length
     same-length-2

@@ -1,6 +1,6 @@
 -- `start_of` meets its contract.
 use borrow.Author.Needs.{needs}
-use Rattle.requests.specs.Openings.{opens-long}
+use Rattle.requests.specs.OpeningLaws.{opens-long}
 use Rattle.requests.specs.Starts.{bad-start, good-start}
 use Rattle.requests.proofs.start.start_of.Statement.{statement}
 use Rattle.requests.proofs.start.start_of.Tie as tie

@@ -6,7 +6,7 @@ use lib.ListN.{length}
 use borrow.Author.Needs.{needs}
 use Rattle.checks.specs.Test.{test}
 use Rattle.chain.specs.Rights.{rightsFormed}
-use Rattle.rights.specs.Form.{rightsFrom, all-words, next-word, no-words}
+use Rattle.rights.specs.FormLaws.{rightsFrom, all-words, next-word, no-words}
 use Rattle.rights.proofs.form.rights_fit.Statement.{statement}
 use Rattle.rights.proofs.form.rights_fit.Tie as tie
 

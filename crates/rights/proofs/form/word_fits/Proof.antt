@@ -1,5 +1,5 @@
 -- `word_fits` meets its contract.
-use Rattle.rights.specs.Form.{word-tested}
+use Rattle.rights.specs.FormLaws.{word-tested}
 use Rattle.rights.proofs.form.word_fits.Statement.{statement}
 use Rattle.rights.proofs.form.word_fits.Tie as tie
 

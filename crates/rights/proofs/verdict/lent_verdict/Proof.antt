@@ -1,6 +1,6 @@
 -- `lent_verdict` meets its contract.
 use borrow.Author.Needs.{needs}
-use Rattle.rights.specs.Lent.{wrong-length, no-log, wrong-rights, all-pass}
+use Rattle.rights.specs.LentLaws.{wrong-length, no-log, wrong-rights, all-pass}
 use Rattle.rights.proofs.verdict.lent_verdict.Statement.{statement}
 use Rattle.rights.proofs.verdict.lent_verdict.Tie as tie
 

@@ -8,7 +8,7 @@ use lib.ListN.{length, drop}
 use borrow.Author.Needs.{needs}
 use Rattle.scores.specs.Scores.{part, sumOf}
 use Rattle.scores.specs.ScoreLaws.{part-small}
-use Rattle.scores.specs.Adding.{sumFrom, sum-refused, sum-starts, sum-goes-on, sum-stops, sum-ends}
+use Rattle.scores.specs.AddingLaws.{sumFrom, sum-refused, sum-starts, sum-goes-on, sum-stops, sum-ends}
 use Rattle.scores.proofs.sum.sum_of.Statement.{statement}
 use Rattle.scores.proofs.sum.sum_of.Tie as tie
 

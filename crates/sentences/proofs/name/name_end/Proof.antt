@@ -4,7 +4,7 @@ use mathlib.Core.Path.{refl}
 use Rattle.text.specs.Phrase.{sameBytes}
 use Rattle.sentences.specs.Phrases.{stepNames, stepName}
 use Rattle.sentences.specs.Read.{begins, phraseEnd}
-use Rattle.sentences.specs.Arms.{no-name, past}
+use Rattle.sentences.specs.ArmLaws.{no-name, past}
 use Rattle.sentences.proofs.name.name_end.Statement.{statement}
 use Rattle.sentences.proofs.name.name_end.Tie as tie
 

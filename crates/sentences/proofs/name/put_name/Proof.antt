@@ -2,7 +2,7 @@
 use Prim.Native.Nat.{zero-le}
 use borrow.Author.Needs.{needs}
 use Rattle.sentences.specs.Phrases.{stepNames, stepName}
-use Rattle.sentences.specs.Arms.{no-name, put-none, past}
+use Rattle.sentences.specs.ArmLaws.{no-name, put-none, past}
 use Rattle.sentences.proofs.name.put_name.Statement.{statement}
 use Rattle.sentences.proofs.name.put_name.Tie as tie
 

@@ -5,7 +5,7 @@ use mathlib.Core.Path.{refl, sym, _∙_}
 use mathlib.Core.List.{[], _∷_}
 use Rattle.text.specs.Phrase.{sameBytes}
 use Rattle.sentences.specs.Phrases.{reasons, reason}
-use Rattle.sentences.specs.PhraseTables.{reason-count}
+use Rattle.sentences.specs.PhraseTableLaws.{reason-count}
 use Rattle.sentences.specs.Read.{says, readReason}
 use Rattle.sentences.specs.ReadLaws.{Tried, tried-on, tried-found, tried-all}
 use Rattle.sentences.proofs.read.read_reason.Statement.{statement}

@@ -2,7 +2,7 @@
 use Prim.Native.Nat.{_-_, _≤_}
 use native.Mathlib.Omega.{arith}
 use mathlib.Core.Path.{refl, _∙_}
-use Rattle.sentences.specs.PhraseTables.{name-count}
+use Rattle.sentences.specs.PhraseTableLaws.{name-count}
 use Rattle.sentences.specs.Read.{readSentence}
 use Rattle.sentences.specs.ReadLaws.{Tried, NamesTried, end-within, tried-all, name-on, name-found}
 use Rattle.sentences.proofs.read.read_sentence.Statement.{statement}

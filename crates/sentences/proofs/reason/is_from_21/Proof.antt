@@ -2,7 +2,7 @@
 use native.Mathlib.Omega.{arith}
 use mathlib.Core.Path.{refl}
 use Rattle.sentences.specs.Phrases.{reasons, reason}
-use Rattle.sentences.specs.Arms.{past}
+use Rattle.sentences.specs.ArmLaws.{past}
 use Rattle.sentences.proofs.reason.is_from_21.Statement.{statement}
 use Rattle.sentences.proofs.reason.is_from_21.Tie as tie
 

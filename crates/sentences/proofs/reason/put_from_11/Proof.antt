@@ -1,7 +1,7 @@
 -- `put_from_11` meets its contract.
 use borrow.Author.Needs.{needs}
 use Rattle.sentences.specs.Phrases.{reasons, reason}
-use Rattle.sentences.specs.Arms.{past}
+use Rattle.sentences.specs.ArmLaws.{past}
 use Rattle.sentences.proofs.reason.put_from_11.Statement.{statement}
 use Rattle.sentences.proofs.reason.put_from_11.Tie as tie
 

@@ -1,7 +1,7 @@
 -- `put_from_21` meets its contract.
 use borrow.Author.Needs.{needs}
 use Rattle.sentences.specs.Phrases.{reasons, reason}
-use Rattle.sentences.specs.Arms.{no-reason, put-none, past}
+use Rattle.sentences.specs.ArmLaws.{no-reason, put-none, past}
 use Rattle.sentences.proofs.reason.put_from_21.Statement.{statement}
 use Rattle.sentences.proofs.reason.put_from_21.Tie as tie
 

@@ -1,8 +1,8 @@
 -- `put_session` meets its contract.
 use native.Mathlib.Omega.{arith}
 use mathlib.Core.Path.{refl, _∙_}
-use Rattle.requests.specs.Begins.{fresh-is}
-use Rattle.session.specs.Starts.{fresh-room, end-reads, end-room, end-puts}
+use Rattle.requests.specs.BeginningLaws.{fresh-is}
+use Rattle.session.specs.StartLaws.{fresh-room, end-reads, end-room, end-puts}
 use borrow.Author.Needs.{needs}
 use Rattle.rights.specs.All.{granted-all}
 use Rattle.session.proofs.start.put_session.Statement.{statement}

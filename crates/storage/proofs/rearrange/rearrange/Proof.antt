@@ -1,7 +1,7 @@
 -- `rearrange` meets its contract.
 use mathlib.Core.Path.{sym, _∙_}
 use borrow.Author.Needs.{needs}
-use Rattle.storage.specs.Decided.{right-lengths, bytes-stay, bytes-written}
+use Rattle.storage.specs.DecidedLaws.{right-lengths, bytes-stay, bytes-written}
 use Rattle.storage.proofs.rearrange.rearrange.Statement.{statement}
 use Rattle.storage.proofs.rearrange.rearrange.Tie as tie
 

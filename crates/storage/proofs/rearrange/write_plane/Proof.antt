@@ -4,7 +4,7 @@ use native.Mathlib.Omega.{arith}
 use mathlib.Core.Path.{_≡_}
 use lib.ListN.{length, length-set}
 use borrow.Author.Needs.{needs}
-use Rattle.storage.specs.Writing.{PlaneSoFar, plane-starts, plane-goes-on, plane-ends}
+use Rattle.storage.specs.WritingLaws.{PlaneSoFar, plane-starts, plane-goes-on, plane-ends}
 use Rattle.storage.proofs.rearrange.write_plane.Statement.{statement}
 use Rattle.storage.proofs.rearrange.write_plane.Tie as tie
 

@@ -5,7 +5,7 @@ use mathlib.Core.Path.{_≡_}
 use lib.ListN.{length}
 use borrow.Rule.Slice.PartMut.{mid-len}
 use borrow.Author.Needs.{needs}
-use Rattle.storage.specs.Writing.{PlanesSoFar, planes-start, planes-room, planes-go-on, planes-end}
+use Rattle.storage.specs.WritingLaws.{PlanesSoFar, planes-start, planes-room, planes-go-on, planes-end}
 use Rattle.storage.proofs.rearrange.write_planes.Statement.{statement}
 use Rattle.storage.proofs.rearrange.write_planes.Tie as tie
 

@@ -1,7 +1,7 @@
 -- `restore` meets its contract.
 use mathlib.Core.Path.{sym, _∙_}
 use borrow.Author.Needs.{needs}
-use Rattle.storage.specs.Decided.{right-lengths, words-stay, words-written}
+use Rattle.storage.specs.DecidedLaws.{right-lengths, words-stay, words-written}
 use Rattle.storage.proofs.restore.restore.Statement.{statement}
 use Rattle.storage.proofs.restore.restore.Tie as tie
 

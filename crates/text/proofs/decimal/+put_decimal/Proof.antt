@@ -4,8 +4,8 @@ use native.Mathlib.Omega.{arith}
 use borrow.Author.Needs.{needs}
 use borrow.Fn.Kinds.{In}
 use borrow.Fn.PlainCycle.{Measures, is, falls, and}
-use Rattle.text.specs.Digits.{one-length, more-length}
-use Rattle.text.specs.PutDecimal.{one-stored, more-stored}
+use Rattle.text.specs.DigitLaws.{one-length, more-length}
+use Rattle.text.specs.PutDecimalLaws.{one-stored, more-stored}
 use Rattle.text.proofs.decimal.put_decimal.Reads as reads
 use Rattle.text.proofs.decimal.put_decimal.Kinds as kinds
 use Rattle.text.proofs.decimal.+put_decimal.Lts-put_decimal as lts

@@ -1,5 +1,5 @@
 -- `is_digit` meets its contract.
-use Rattle.text.specs.ParseDecimal.{digit-below, digit-above}
+use Rattle.text.specs.ParseDecimalLaws.{digit-below, digit-above}
 use Rattle.text.proofs.decimal.is_digit.Statement.{statement}
 use Rattle.text.proofs.decimal.is_digit.Tie as tie
 

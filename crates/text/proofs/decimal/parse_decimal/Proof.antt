@@ -6,7 +6,7 @@ use mathlib.Core.Path.{_≡_, sym, _∙_}
 use lib.ListN.{length, drop}
 use Rattle.text.specs.Decimal.{numeralOf}
 use Rattle.text.specs.DecimalLaws.{digit-range}
-use Rattle.text.specs.ParseDecimal.{numberFrom, number-start, number-not, number-turn, number-other, number-large, number-end}
+use Rattle.text.specs.ParseDecimalLaws.{numberFrom, number-start, number-not, number-turn, number-other, number-large, number-end}
 use Rattle.text.proofs.decimal.parse_decimal.Statement.{statement}
 use Rattle.text.proofs.decimal.parse_decimal.Tie as tie
 

@@ -1,6 +1,6 @@
 -- `starts` meets its contract.
 use borrow.Author.Needs.{needs}
-use Rattle.text.specs.ParseDecimal.{starts-short, starts-long}
+use Rattle.text.specs.ParseDecimalLaws.{starts-short, starts-long}
 use Rattle.text.proofs.decimal.starts.Statement.{statement}
 use Rattle.text.proofs.decimal.starts.Tie as tie
 

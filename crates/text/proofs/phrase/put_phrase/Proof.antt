@@ -5,7 +5,7 @@ use native.Mathlib.Omega.{arith}
 use borrow.Author.Needs.{needs}
 use lib.ListN.{length, drop, length-set}
 use lib.Seq.{sets}
-use Rattle.text.specs.Writes.{Stored, stored-start, stored-turn, stored-end}
+use Rattle.text.specs.WriteLaws.{Stored, stored-start, stored-turn, stored-end}
 use Rattle.text.proofs.phrase.put_phrase.Statement.{statement}
 use Rattle.text.proofs.phrase.put_phrase.Tie as tie
 

@@ -6,7 +6,7 @@ use lib.ListN.{length}
 use borrow.Author.Needs.{needs}
 use Rattle.text.specs.Puts.{left-length}
 use Rattle.chain.specs.Operations.{buffers, held}
-use Rattle.total.specs.Listing.{Listing, list-few, listing-start, within, listing-room, listing-turn, listing-end}
+use Rattle.total.specs.ListingLaws.{Listing, list-few, listing-start, within, listing-room, listing-turn, listing-end}
 use Rattle.total.proofs.ledgers.put_ledgers.Statement.{statement}
 use Rattle.total.proofs.ledgers.put_ledgers.Tie as tie
 

@@ -1,7 +1,7 @@
 -- `put_session` meets its contract.
 use mathlib.Core.Path.{refl, _∙_}
-use Rattle.requests.specs.Begins.{fresh-is}
-use Rattle.total.specs.Summed.{run-log, run-room, run-puts}
+use Rattle.requests.specs.BeginningLaws.{fresh-is}
+use Rattle.total.specs.SummedLaws.{run-log, run-room, run-puts}
 use borrow.Author.Needs.{needs}
 use Rattle.rights.specs.All.{granted-all}
 use Rattle.total.proofs.start.put_session.Statement.{statement}

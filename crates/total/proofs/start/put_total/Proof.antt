@@ -1,5 +1,5 @@
 -- `put_total` meets its contract.
-use Rattle.total.specs.Answers.{end-room, end-puts, end-none}
+use Rattle.total.specs.AnswerLaws.{end-room, end-puts, end-none}
 use borrow.Author.Needs.{needs}
 use Rattle.total.proofs.start.put_total.Statement.{statement}
 use Rattle.total.proofs.start.put_total.Tie as tie

@@ -3,7 +3,7 @@ use Prim.Native.Nat.{_-_, _≤_}
 use native.Mathlib.Omega.{arith}
 use mathlib.Core.Path.{refl}
 use borrow.Author.Needs.{needs}
-use Rattle.readers.specs.Listed.{place-small}
+use Rattle.readers.specs.ListedLaws.{place-small}
 use Rattle.totals.specs.Carried.{Carried, carry-start, part-short, carry-turn, carry-end}
 use Rattle.totals.proofs.exact.sum_along.Statement.{statement}
 use Rattle.totals.proofs.exact.sum_along.Tie as tie

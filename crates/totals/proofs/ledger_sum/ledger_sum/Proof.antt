@@ -1,7 +1,7 @@
 -- `ledger_sum` meets its contract.
 use borrow.Author.Needs.{needs}
-use Rattle.readers.specs.ReadLedger.{answer-done}
-use Rattle.totals.specs.Answered.{sum-refused, part-few, sum-answered}
+use Rattle.readers.specs.ReadLedgerLaws.{answer-done}
+use Rattle.totals.specs.AnswerLaws.{sum-refused, part-few, sum-answered}
 use Rattle.totals.proofs.ledger_sum.ledger_sum.Statement.{statement}
 use Rattle.totals.proofs.ledger_sum.ledger_sum.Tie as tie
 

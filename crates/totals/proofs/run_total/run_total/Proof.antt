@@ -1,7 +1,7 @@
 -- `run_total` meets its contract.
 use borrow.Author.Needs.{needs}
 use Rattle.readers.specs.Readable.{log-readable}
-use Rattle.totals.specs.Answered.{total-refused, log-short, total-answered}
+use Rattle.totals.specs.AnswerLaws.{total-refused, log-short, total-answered}
 use Rattle.totals.proofs.run_total.run_total.Statement.{statement}
 use Rattle.totals.proofs.run_total.run_total.Tie as tie
 

@@ -6,7 +6,7 @@ use lib.ListN.{length, drop}
 use borrow.Author.Needs.{needs}
 use Rattle.chain.specs.Values.{sumOf}
 use Rattle.chain.specs.Laws.Values.{sum-bound}
-use Rattle.totals.specs.Sums.{sum-turn, sum-end}
+use Rattle.totals.specs.SumLaws.{sum-turn, sum-end}
 use Rattle.totals.proofs.sums.sum_of.Statement.{statement}
 use Rattle.totals.proofs.sums.sum_of.Tie as tie
 

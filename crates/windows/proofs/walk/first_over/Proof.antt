@@ -9,7 +9,7 @@ use Rattle.chain.specs.declared.answer.WindowAnswer.the-variants.{None}
 use Rattle.chain.specs.Values.{valueOf}
 use Rattle.chain.specs.Windows.{windowFrom}
 use Rattle.windows.specs.Left.{left, left-all}
-use Rattle.windows.specs.Walking.{Walking, begins, walk-takes, walk-ends, walk-some, walk-moves, walk-held, walk-shorter, walk-over, walk-kept, reading-few}
+use Rattle.windows.specs.WalkingLaws.{Walking, begins, walk-takes, walk-ends, walk-some, walk-moves, walk-held, walk-shorter, walk-over, walk-kept, reading-few}
 use Rattle.windows.proofs.walk.first_over.Statement.{statement}
 use Rattle.windows.proofs.walk.first_over.Tie as tie
 
@@ -157,7 +157,7 @@ returns c =
     at-starts .starts .inv .0
     ∙ walk-ends _ _ _ _ _ _ (at-loop .loop .inv) (at-entry .pre .0 .entries .within) (c .before .before .before .loop-test .taken) _ (at-settled .settled .ensures)
     (c .if1 .taken)
-    ∙ ap (λ (l : List _). windowFrom (args .length) (args .limit) 0 (map valueOf l)) (left-all (args .state .now) (args .entries .now) (args .h))
+    ∙ ap (λ (l : List _). windowFrom (args .length) (args .limit) 0 (map valueOf l)) (left-all (args .state .now) (args .entries .now) (args .head))
 
 returns-2 : tie.Need-returns-2 Inv-loop μ-loop Inv-starts μ-starts
 returns-2 c =
@@ -165,7 +165,7 @@ returns-2 c =
     let at-entry = c .before .before .before .before .before .before .before .before in
     let args = at-entry .args in
     walk-over _ _ _ _ _ _ (at-loop .loop .inv) (at-entry .pre .0 .entries .within) (c .before .loop-test .left) (at-entry .pre .1 .0) (omega arith)
-    ∙ ap (λ (l : List _). windowFrom (args .length) (args .limit) 0 (map valueOf l)) (left-all (args .state .now) (args .entries .now) (args .h))
+    ∙ ap (λ (l : List _). windowFrom (args .length) (args .limit) 0 (map valueOf l)) (left-all (args .state .now) (args .entries .now) (args .head))
 
 pub first-over-spec : {M : Type 1} → statement M
 first-over-spec =
