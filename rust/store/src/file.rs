@@ -1,9 +1,11 @@
 //! The files of a log on the disk: which ones they are, and whether their names still lead to them.
 //!
 //! The name of the write-ahead log is looked at after each call, and the file's own before it: one system call more for
-//! a step, some 0.6 µs. To look at `-shm` as well would be another; it goes only where somebody removes it by hand. A
-//! connection whose write-ahead log has lost its name is closed without copying, since others may have gone on without
-//! it.
+//! a step, some 0.6 µs. It asks for the file's number, and not for its times, as Rust's own function does: the kernel
+//! then notes the next change's time more exactly, and that is one more thing to write. On ext4 and Linux 6.18 a write
+//! with its sync took 123 and 135 µs alone, 134 and 128 with the look at the number, and 182 and 193 with the times. To
+//! look at `-shm` as well would be another call; it goes only where somebody removes it by hand. A connection whose
+//! write-ahead log has lost its name is closed without copying, since others may have gone on without it.
 //!
 //! A store that has to read the file from the beginning must find the last row that it had read or stored, with its
 //! checksum. So a controller that goes on running finds steps that were lost with a removed file.
@@ -11,35 +13,43 @@
 use crate::Error;
 use crate::database::{Database, Fault};
 use crate::sqlite;
+use crate::system::{Found, find};
+use std::ffi::CString;
 use std::io::ErrorKind;
-use std::os::unix::fs::MetadataExt;
+use std::os::unix::ffi::OsStrExt;
 use std::path::{Path, PathBuf};
 
 /// How long a file is in which there is nothing: a page at most.
 const EMPTY: u64 = 4_096;
 
-/// A file, whatever its name is: its device and its number there.
+/// A file, whatever its name is: its device's two numbers, and its own there.
 #[derive(Clone, Copy, Debug, PartialEq, Eq)]
 pub(crate) struct FileNumber {
-    pub device: u64,
-    pub inode: u64,
+    pub device: [u32; 2],
+    inode: u64,
 }
 
 impl FileNumber {
     /// The file that this name leads to. One of several names is refused: SQLite makes the name of the write-ahead log
     /// from that of the file, so that under each name there would be another.
     pub fn of_log(path: &Path) -> Result<Self, Error> {
-        match std::fs::metadata(path) {
-            Ok(file) if file.is_dir() => Err(Error::NoLog("it is a folder".into())),
-            Ok(file) if file.nlink() > 1 => Err(Error::Unfit(format!(
+        match find(&c_name(path)?) {
+            Ok(file) if file.is_folder => Err(Error::NoLog("it is a folder".into())),
+            Ok(file) if file.links > 1 => Err(Error::Unfit(format!(
                 "it has {} names (hard links), and steps by different names would not see each other: remove the others \
                  (find -samefile lists them), or replace them by copies",
-                file.nlink()
+                file.links
             ))),
-            Ok(file) => Ok(Self::of(&file)),
+            Ok(Found { device, inode, .. }) => Ok(FileNumber { device, inode }),
             Err(error) if error.kind() == ErrorKind::NotFound => Err(Error::Missing),
             Err(error) => Err(Error::File(error.to_string())),
         }
+    }
+
+    /// The file or folder that this name leads to, if there is one.
+    pub fn of(path: &Path) -> Option<Self> {
+        let Found { device, inode, .. } = find(&c_name(path).ok()?).ok()?;
+        Some(FileNumber { device, inode })
     }
 
     /// The file that this name leads to, and that the connection has open.
@@ -49,15 +59,13 @@ impl FileNumber {
         // it tells, and if later, the number above is the one that it has.
         if database.moved()? { Err(Error::Replaced) } else { Ok(file) }
     }
-
-    pub fn of(file: &std::fs::Metadata) -> Self {
-        FileNumber { device: file.dev(), inode: file.ino() }
-    }
 }
 
 /// The write-ahead log beside a log's file.
 pub(crate) struct Beside {
     path: PathBuf,
+    /// The same, as the kernel takes it.
+    name: CString,
     file: FileNumber,
 }
 
@@ -66,16 +74,16 @@ impl Beside {
     /// removes it.
     pub fn of_open(database: &Database) -> Result<Self, Error> {
         let path = database.beside();
-        match std::fs::metadata(&path) {
-            Ok(file) => Ok(Beside { file: FileNumber::of(&file), path }),
-            Err(_) => Err(detached(&path).into()),
+        match FileNumber::of(&path) {
+            Some(file) => Ok(Beside { name: c_name(&path)?, file, path }),
+            None => Err(detached(&path).into()),
         }
     }
 
     /// That its name still leads to it. What is written to it otherwise, nobody else will ever read.
     pub fn holds(&self) -> Result<(), Fault> {
-        match std::fs::metadata(&self.path) {
-            Ok(file) if FileNumber::of(&file) == self.file => Ok(()),
+        match find(&self.name) {
+            Ok(Found { device, inode, .. }) if (FileNumber { device, inode }) == self.file => Ok(()),
             _ => Err(detached(&self.path)),
         }
     }
@@ -102,6 +110,11 @@ pub(crate) fn close_empty(database: Database) -> bool {
     let last = nothing && beside.exists() && database.copy_on_closing().is_ok();
     drop(database);
     last && !beside.exists()
+}
+
+fn c_name(path: &Path) -> Result<CString, Error> {
+    let name = CString::new(path.as_os_str().as_bytes());
+    name.map_err(|_| Error::File("the name of the file has a zero byte".into()))
 }
 
 fn detached(path: &Path) -> Fault {

@@ -70,9 +70,9 @@ fn local(path: &Path, mounts: &Mounts) -> Result<(), Error> {
     let Some(kind) = file_system(path) else { return Ok(()) };
     let mut name = NETWORKS.iter().find(|network| network.0 == kind).map(|network| network.1);
     if kind == SERVED
-        && let Ok(file) = std::fs::metadata(path)
+        && let Some(file) = FileNumber::of(path)
     {
-        let of = mounts.kind_of(FileNumber::of(&file).device);
+        let of = mounts.kind_of(file.device);
         name = SERVED_NETWORKS.into_iter().find(|&network| of == Some(network.as_bytes()));
     }
     match name {
@@ -105,9 +105,7 @@ impl Mounts {
     }
 
     /// The type of the file system on this device.
-    fn kind_of(&self, device: u64) -> Option<&[u8]> {
-        let major = (device >> 8) & 0xFFF | (device >> 32) & !0xFFF;
-        let minor = device & 0xFF | (device >> 12) & !0xFF;
+    fn kind_of(&self, [major, minor]: [u32; 2]) -> Option<&[u8]> {
         let device = format!("{major}:{minor}");
         self.lines().find(|mount| mount.device == device.as_bytes()).map(|mount| mount.kind)
     }
@@ -116,7 +114,7 @@ impl Mounts {
     fn of_file(&self, path: &Path, file: FileNumber) -> Option<PathBuf> {
         // No other mount is looked at: that may take long where a network is down.
         let may_be = |mount: &Mount<'_>| mount.at == path || mount.root.file_name() == path.file_name();
-        let is = |mount: &Mount<'_>| std::fs::metadata(&mount.at).is_ok_and(|found| FileNumber::of(&found) == file);
+        let is = |mount: &Mount<'_>| FileNumber::of(&mount.at) == Some(file);
         self.lines().find(|mount| may_be(mount) && is(mount)).map(|mount| mount.at)
     }
 }
@@ -158,9 +156,9 @@ mod tests {
         assert_eq!(lines.len(), 2);
         assert_eq!(lines[1].root, Path::new("/a b/run.db"));
         assert_eq!(lines[1].at, Path::new("/mnt/c\\d"));
-        assert_eq!(mounts.kind_of(47), Some(&b"fuse.sshfs"[..]));
-        assert_eq!(mounts.kind_of(254 << 8), Some(&b"ext4"[..]));
-        assert_eq!(mounts.kind_of(48), None);
+        assert_eq!(mounts.kind_of([0, 47]), Some(&b"fuse.sshfs"[..]));
+        assert_eq!(mounts.kind_of([254, 0]), Some(&b"ext4"[..]));
+        assert_eq!(mounts.kind_of([0, 48]), None);
         assert_eq!(unescaped(b"\\04"), Path::new("\\04"));
     }
 }

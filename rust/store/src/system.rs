@@ -1,6 +1,7 @@
 //! The C library's functions that Rust's has not, as far as they are used.
 
-use std::ffi::{CString, c_char, c_int};
+use std::ffi::{CStr, CString, c_char, c_int, c_uint};
+use std::io;
 use std::mem::MaybeUninit;
 use std::os::unix::ffi::OsStrExt;
 use std::path::Path;
@@ -12,13 +13,61 @@ struct StatFs {
     rest: [u64; 31],
 }
 
+/// What `statx` tells of a file. It has 256 bytes.
+#[repr(C)]
+struct StatX {
+    before: [u32; 4],
+    links: u32,
+    accounts: [u32; 2],
+    mode: u16,
+    spare: u16,
+    inode: u64,
+    between: [u64; 12],
+    device: [u32; 2],
+    after: [u64; 14],
+}
+
 unsafe extern "C" {
     fn statfs(path: *const c_char, into: *mut StatFs) -> c_int;
+    fn statx(folder: c_int, path: *const c_char, flags: c_int, wanted: c_uint, into: *mut StatX) -> c_int;
     fn eaccess(path: *const c_char, mode: c_int) -> c_int;
     fn geteuid() -> u32;
 }
 
 const READ_AND_WRITE: c_int = 6;
+/// The folder that the process is in.
+const AT_FDCWD: c_int = -100;
+/// A file's type, how many names it has, and its number.
+const WANTED: c_uint = 0x1 | 0x4 | 0x100;
+const TYPE: u16 = 0o170_000;
+const FOLDER: u16 = 0o040_000;
+
+/// What a name leads to.
+pub(crate) struct Found {
+    /// The two numbers of the device.
+    pub device: [u32; 2],
+    /// The file's number there.
+    pub inode: u64,
+    /// How many names it has.
+    pub links: u32,
+    pub is_folder: bool,
+}
+
+/// What a name leads to. Rust's function also asks when the file was changed, and since Linux 6.13 a file of which that
+/// was asked notes the time of its next change more exactly: to ask it of a write-ahead log after each step made every
+/// step slower.
+pub(crate) fn find(path: &CStr) -> io::Result<Found> {
+    let mut into = MaybeUninit::<StatX>::zeroed();
+    // SAFETY: the path ends with a zero byte, and there is room for all that is filled. All zeros are a value too.
+    let found = unsafe {
+        if statx(AT_FDCWD, path.as_ptr(), 0, WANTED, into.as_mut_ptr()) != 0 {
+            return Err(io::Error::last_os_error());
+        }
+        into.assume_init()
+    };
+    let StatX { device, inode, links, mode, .. } = found;
+    Ok(Found { device, inode, links, is_folder: mode & TYPE == FOLDER })
+}
 
 /// The number of a file system's kind, where it can be had. The kernel's numbers have 32 bits.
 pub(crate) fn file_system(path: &Path) -> Option<u32> {
