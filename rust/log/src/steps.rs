@@ -78,11 +78,12 @@ impl Stepper<'_> {
         self.store.last_row() != self.copied
     }
 
-    /// Copies the write-ahead log back, so that the file holds every step by itself. Where that fails, the steps are as
-    /// well stored as before.
+    /// Copies the write-ahead log back, so that the file holds every step by itself. Where that fails, or a reader keeps
+    /// some of it, the steps are as well stored as before, and it is tried again at the next rest.
     fn rest(&mut self) {
-        let _ = self.store.checkpoint();
-        self.copied = self.store.last_row();
+        if let Ok(true) = self.store.checkpoint() {
+            self.copied = self.store.last_row();
+        }
     }
 
     /// Takes the step of the next line, and prints its number and the reply.
