@@ -35,10 +35,9 @@ pub fn word(client: u64, step: Step) -> Option<u64> {
     (client < 1 << 8 && value < 1 << CLIENT).then_some((number << STEP) | (client << CLIENT) | value)
 }
 
-/// The client and the step of a word, if its number is that of a step.
-pub fn parts(word: u64) -> Option<(u64, Step)> {
-    let value = word % (1 << CLIENT);
-    let step = match word >> STEP {
+/// The step of a number, in the reference's order, with this value if it is a write.
+pub fn step(number: u64, value: u64) -> Option<Step> {
+    Some(match number {
         0 => Step::Name,
         1 => Step::Become,
         2 => Step::Abdicate,
@@ -50,8 +49,12 @@ pub fn parts(word: u64) -> Option<(u64, Step)> {
         8 => Step::Write(value),
         9 => Step::CloseOwn,
         _ => return None,
-    };
-    Some((word >> CLIENT & 0xFF, step))
+    })
+}
+
+/// The client and the step of a word, if its number is that of a step.
+pub fn parts(word: u64) -> Option<(u64, Step)> {
+    Some((word >> CLIENT & 0xFF, step(word >> STEP, word % (1 << CLIENT))?))
 }
 
 /// What one word of a plan answers: 25 before anything else, or what its step answers.

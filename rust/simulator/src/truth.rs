@@ -2,7 +2,7 @@
 
 use crate::change::Change;
 use cindrolf::Step;
-use model::{Answer, layout, marks, rights, words};
+use model::{Answer, layout, marks, plans, rights, words};
 
 /// The log, its marks and its rights after some rows, by the model.
 #[derive(Clone, Debug, PartialEq, Eq)]
@@ -66,18 +66,8 @@ impl Truth {
 }
 
 fn model_step(step: Step) -> model::Step {
-    match step {
-        Step::Name => model::Step::Name,
-        Step::Become => model::Step::Become,
-        Step::Abdicate => model::Step::Abdicate,
-        Step::Fetch => model::Step::Fetch,
-        Step::CloseLast => model::Step::CloseLast,
-        Step::Finish => model::Step::Finish,
-        Step::Create => model::Step::Create,
-        Step::Append => model::Step::Append,
-        Step::Write(value) => model::Step::Write(value),
-        Step::CloseOwn => model::Step::CloseOwn,
-    }
+    let value = if let Step::Write(value) = step { value } else { 0 };
+    plans::step(step.number(), value).expect("a number below ten")
 }
 
 /// Whether an answer is a refusal.

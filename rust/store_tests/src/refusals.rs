@@ -1,7 +1,8 @@
 //! Holds every refusal against the model, at the row of which it was decided.
 
 use crate::notes::Refused;
-use model::{Answer, Step, words};
+use model::plans::step;
+use model::{Answer, words};
 use std::path::Path;
 use store::PATIENCE;
 use store::database::{Database, Mode, Row, Value};
@@ -78,23 +79,6 @@ impl Model {
         }
         Ok(())
     }
-}
-
-/// The step of a number, in the order of the reference.
-fn step(number: u64, value: u64) -> Option<Step> {
-    Some(match number {
-        0 => Step::Name,
-        1 => Step::Become,
-        2 => Step::Abdicate,
-        3 => Step::Fetch,
-        4 => Step::CloseLast,
-        5 => Step::Finish,
-        6 => Step::Create,
-        7 => Step::Append,
-        8 => Step::Write(value),
-        9 => Step::CloseOwn,
-        _ => return None,
-    })
 }
 
 /// An answer by its number, as the reference has it; none for a refusal.
