@@ -16,9 +16,12 @@ use Rattle.grammar.specs.declared.Request.the-variants.{Take, BadLine}
 abbrev pub is : ℕ → Char → Bool
 is byte c = eqb byte (code c)
 
--- Clients are 0 to 255.
+-- The client of a line is a number below this.
+abbrev pub clientNumbers : ℕ
+clientNumbers = 256
+
 unfoldable pub withClient : ℕ → Request → Request
-withClient c r = cond (ltb c 256) r BadLine
+withClient c r = cond (ltb c clientNumbers) r BadLine
 
 unfoldable pub letterStep : ℕ → ℕ → Request
 letterStep letter c =

@@ -7,6 +7,8 @@ use lib.ListN.{length, getD, take, drop, length-drop}
 use lib.Seq.{length-take-le}
 use Rattle.records.specs.declared.numbers.LedgerNumber.{LedgerNumber}
 use Rattle.records.specs.declared.head.Head.{Head}
+use Rattle.limits.specs.Limits.{placeLimit}
+use Rattle.records.specs.Layout.{firstPlace}
 use Rattle.records.specs.Words.{unpackPlace}
 use Rattle.chain.specs.Log.{ofLedger}
 use Rattle.chain.specs.Operations.{wordLedger}
@@ -23,11 +25,11 @@ pub record Exactly (n ones parts : ℕ) : Type 0 where
 
 -- The words added up so far, of so many ledgers, and those of the list places that are left.
 pub record Carried (s e : List ℕ) (n i end ones parts : ℕ) : Type 0 where
-  pub left : ones * 10 ^ 12 + parts + sumOf (along s e n i end) ≡ sumOf (along s e n 272 end)
+  pub left : ones * 10 ^ 12 + parts + sumOf (along s e n i end) ≡ sumOf (along s e n firstPlace end)
   pub small : parts < 10 ^ 12
-  pub few : ones ≤ (i - 272) * 18446745
+  pub few : ones ≤ (i - firstPlace) * 18446745
 
-pub carry-start : (s e : List ℕ) (n end : ℕ) → Carried s e n 272 end 0 0
+pub carry-start : (s e : List ℕ) (n end : ℕ) → Carried s e n firstPlace end 0 0
 carry-start s e n end = record { left = omega arith; small = omega arith; few = omega arith }
 
 pub part-short : (e : List ℕ) (first past : ℕ) → first ≤ past → past ≤ length e → length e ≤ 4096 → length (take (past - first) (drop first e)) ≤ 4096
@@ -42,7 +44,7 @@ module _ (s e : List ℕ) (n i end ones parts : ℕ) (c : Carried s e n i end on
     part-small : sum < 2 ^ 64
     part-small = omega (arith, is, sum-bound (take (past - first) (drop first e)), part-short e first past ordered within short)
 
-    pub carry-turn : 272 ≤ i → i < end → end ≤ length s → (x : LedgerNumber) → x ≡ unpackPlace (getD s i 0) → IsPart e n (x .0) first past
+    pub carry-turn : firstPlace ≤ i → i < end → end ≤ length s → (x : LedgerNumber) → x ≡ unpackPlace (getD s i 0) → IsPart e n (x .0) first past
         → Carried s e n (i + 1) end (ones + (sum / 10 ^ 12 + (parts + sum % 10 ^ 12) / 10 ^ 12)) ((parts + sum % 10 ^ 12) % 10 ^ 12)
     carry-turn a m w x at p =
         let rest : sumOf (along s e n i end) ≡ sum + sumOf (along s e n (i + 1) end) =
@@ -55,12 +57,12 @@ module _ (s e : List ℕ) (n i end ones parts : ℕ) (c : Carried s e n i end on
           few = omega (arith, c .few, c .small, part-small);
         }
 
-  pub carry-end : i ≤ end → end ≤ i → (h : Head) → n ≡ h .«entry_count» → end ≡ 272 + h .«list_length» → h .«list_length» ≤ 255
+  pub carry-end : i ≤ end → end ≤ i → (h : Head) → n ≡ h .«entry_count» → end ≡ firstPlace + h .«list_length» → h .«list_length» ≤ placeLimit
       → Exactly (sumOf (chainWords s e h)) ones parts
   unfolding sum
   carry-end a b h q r z =
       let none : sumOf (along s e n i end) ≡ 0 = ap sumOf (along-end s e n i end a b) in
-      let all : sumOf (chainWords s e h) ≡ sumOf (along s e n 272 end) = ap sumOf (along-all s e h) ∙ rw (q, r) in
+      let all : sumOf (chainWords s e h) ≡ sumOf (along s e n firstPlace end) = ap sumOf (along-all s e h) ∙ rw (q, r) in
       record {
         ones-are = omega (arith, c .left, c .small, none, all);
         parts-are = omega (arith, c .left, c .small, none, all);
