@@ -26,7 +26,7 @@ const MOST_WALKED: usize = 120;
 const MOST_PICTURED: usize = 3_000;
 /// The most milliseconds until a page is painted, and the most bytes that it has.
 const MOST_TIME: f64 = 1000.0;
-const INPUT_LIMIT: usize = 2_000_000;
+const TOO_LONG: usize = 2_000_000;
 /// The most clients, listed ledgers and other ledgers that are on one screen together.
 const ONE_SCREEN: [usize; 3] = [3, 3, 1];
 
@@ -75,7 +75,7 @@ fn jump(browser: &mut Chromium) -> Outcome<f64> {
 
 /// Tries one page in every way.
 fn check(browser: &mut Chromium, page: &Page) -> Outcome<String> {
-    if page.bytes >= INPUT_LIMIT {
+    if page.bytes >= TOO_LONG {
         return Err(format!("it has {} bytes", page.bytes));
     }
     let time = open(browser, page)?;

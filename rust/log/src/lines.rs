@@ -4,7 +4,7 @@ use crate::signals::Waited;
 use std::io::{BufRead, BufReader, ErrorKind, Read, Result};
 
 /// A longer line is no step: the longest, `W 255 18446744073709551615`, has 26 bytes.
-const INPUT_LIMIT: usize = 26;
+const LINE_LIMIT: usize = 26;
 
 /// What comes next.
 #[derive(Clone, Debug, PartialEq, Eq)]
@@ -51,7 +51,7 @@ impl<R: Read> Lines<R> {
             self.begun = true;
             let end = bytes.iter().position(|&byte| byte == b'\n');
             let part = &bytes[..end.unwrap_or(bytes.len())];
-            let room = INPUT_LIMIT + 1 - self.line.len();
+            let room = LINE_LIMIT + 1 - self.line.len();
             self.line.extend_from_slice(&part[..part.len().min(room)]);
             let used = end.map_or(bytes.len(), |end| end + 1);
             self.input.consume(used);
@@ -64,7 +64,7 @@ impl<R: Read> Lines<R> {
     fn whole(&mut self) -> Vec<u8> {
         self.begun = false;
         let line = std::mem::take(&mut self.line);
-        if line.len() > INPUT_LIMIT { Vec::new() } else { line }
+        if line.len() > LINE_LIMIT { Vec::new() } else { line }
     }
 }
 

@@ -3,7 +3,7 @@
 use cindrolf::{MarkName, Step};
 
 /// A single step of a request.
-#[derive(Clone, Copy, Debug, PartialEq, Eq)]
+#[derive(Clone, Copy, Debug, PartialEq, Eq, Hash)]
 pub enum Change {
     /// A client's step.
     Step(u64, Step),

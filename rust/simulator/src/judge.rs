@@ -2,10 +2,11 @@
 
 use crate::change::Change;
 use crate::controller::{Controller, End};
-use crate::row::{Row, encoded, requests};
+use crate::row::{Row, requests};
 use crate::truth::{Truth, refused};
 use cindrolf::Step;
 use model::Answer;
+use std::hash::{DefaultHasher, Hash, Hasher};
 
 /// What a promise is broken by.
 pub type Breach = String;
@@ -62,11 +63,12 @@ pub struct Counts {
     pub forgotten: u64,
 }
 
-/// The mark of one row more than `before`: another way than the chain value to tell lists of rows apart.
+/// The mark of one row more than `before`: another way than the chain value to tell lists of rows apart. It uses nothing
+/// of the bytes of a row, so that it tells rows apart whose bytes are the same.
 pub fn known_mark(before: u64, id: u64, index: u32, change: Change) -> u64 {
-    encoded(id, index, change)
-        .into_iter()
-        .fold(before.rotate_left(5) ^ 0x9E37_79B9, |sum, byte| (sum ^ u64::from(byte)).wrapping_mul(0x0100_0000_01B3))
+    let mut hasher = DefaultHasher::new();
+    (before, id, index, change).hash(&mut hasher);
+    hasher.finish()
 }
 
 impl Judge {

@@ -37,7 +37,7 @@ pub enum Mode {
 }
 
 /// The largest value in a log is a text of its schema. The scores of a read have at most 8,000 bytes.
-const INPUT_LIMIT: c_int = 65_536;
+const SIZE_LIMIT: c_int = 65_536;
 
 /// The connection itself. Statements share it, so that it is closed after the last of them.
 struct Handle {
@@ -146,7 +146,7 @@ impl Database {
         database.set(sqlite::DBCONFIG_ENABLE_VIEW, false)?;
         // SAFETY: the connection is open; the hook gets `pages`, which lives as long as the handle.
         unsafe {
-            sqlite::sqlite3_limit(database.0.connection, sqlite::LIMIT_LENGTH, INPUT_LIMIT);
+            sqlite::sqlite3_limit(database.0.connection, sqlite::LIMIT_LENGTH, SIZE_LIMIT);
             sqlite::sqlite3_wal_hook(database.0.connection, Some(note_pages), database.0.pages.cast());
         }
         Ok(database)
