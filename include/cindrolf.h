@@ -121,7 +121,7 @@ static inline uint64_t cindrolf_answer_place(uint64_t answer) { return answer & 
 #define CINDROLF_REFUSAL_NO_SENTENCE UINT64_C(28)      /* there is no sentence for these numbers */
 
 /* The numbers of the steps, in this order: what cindrolf_advise answers where it does not refuse, or that there is no step to take, what
- * stands in step words, and what cindrolf_sentence takes and cindrolf_read_sentence gives. Name is never advised. */
+ * cindrolf_take and cindrolf_sentence take, what stands in step words, and what cindrolf_read_sentence gives. Name is never advised. */
 #define CINDROLF_STEP_NAME UINT64_C(0)
 #define CINDROLF_STEP_BECOME UINT64_C(1)
 #define CINDROLF_STEP_ABDICATE UINT64_C(2)
@@ -221,6 +221,14 @@ uint64_t cindrolf_write_scores_with(uint64_t *state, size_t state_length, uint64
                                     size_t rights_length, uint64_t client, const uint16_t *scores, size_t scores_length);
 uint64_t cindrolf_close_own_with(uint64_t *state, size_t state_length, uint64_t *entries, size_t entries_length, const uint64_t *rights,
                                  size_t rights_length, uint64_t client);
+
+/* A step by its number, CINDROLF_STEP_NAME to CINDROLF_STEP_CLOSE_OWN. Refusal 25 comes before all others where the number is above nine,
+ * whatever the buffers, the rights and the client; else it takes and answers as the step's own function does, without rights or with them.
+ * The value counts only for a write. No number stands for a write of scores. */
+uint64_t cindrolf_take(uint64_t *state, size_t state_length, uint64_t *entries, size_t entries_length, uint64_t step, uint64_t client,
+                       uint64_t value);
+uint64_t cindrolf_take_with(uint64_t *state, size_t state_length, uint64_t *entries, size_t entries_length, const uint64_t *rights,
+                            size_t rights_length, uint64_t step, uint64_t client, uint64_t value);
 
 /* Plans. A step word stands for a step by a client: the step's number as above in the 4 most significant bits, the client in the 8 below,
  * and a value in 52, which counts only for a write. No word stands for a write of scores. */

@@ -1,7 +1,7 @@
 /* The version of the library, null pointers with length 0, which every function takes for an empty buffer, an empty ledger that
  * its leader closes, the limits of lent scores, wide values, the numbers and places that writes answer, those of advised steps,
- * marks, rights, plans, words that are rearranged, refusals in words, the turns of a shared log, and a log of 512 entry words. It compiles
- * as C and as C++. */
+ * marks, rights, plans, steps by their numbers, words that are rearranged, refusals in words, the turns of a shared log, and a
+ * log of 512 entry words. It compiles as C and as C++. */
 #include "cindrolf.h"
 
 #include <inttypes.h>
@@ -9,6 +9,7 @@
 #include <string.h>
 
 #define WRONG_LENGTH (CINDROLF_REFUSED + CINDROLF_REFUSAL_WRONG_LENGTH)
+#define UNKNOWN_STEP (CINDROLF_REFUSED + 25)
 
 static uint64_t state[CINDROLF_STATE_WORDS];
 static uint64_t entries[CINDROLF_ENTRY_WORDS];
@@ -63,6 +64,17 @@ static const struct {
     {"close own", cindrolf_close_own, cindrolf_close_own_with, UINT64_C(0x0040000000000000)},
 };
 
+/* Numbers of no step. Those above 15 are some step's in their last four, eight or 32 bits. */
+static const uint64_t no_steps[] = {10, 15, 16, 255, 256, 264, UINT64_C(1) << 32, (UINT64_C(1) << 32) + 8, UINT64_C(1) << 63, UINT64_MAX};
+
+/* Every step by its number refuses these buffers, and 25 comes before that. */
+static void refuse_numbers(uint64_t *s, size_t s_length, uint64_t *e, size_t e_length, const uint64_t *r, size_t r_length, uint64_t answer) {
+    for (uint64_t number = 0; number < 10; number++)
+        expect("a step by its number", cindrolf_take_with(s, s_length, e, e_length, r, r_length, number, 9, UINT64_MAX), answer);
+    for (size_t i = 0; i < sizeof no_steps / sizeof no_steps[0]; i++)
+        expect("a number of no step", cindrolf_take_with(s, s_length, e, e_length, r, r_length, no_steps[i], 9, 7), UNKNOWN_STEP);
+}
+
 /* Every step refuses these buffers, by whatever client, and whatever its scores. */
 static void refuse_steps(uint64_t *s, size_t s_length, uint64_t *e, size_t e_length, const uint64_t *r, size_t r_length, uint64_t answer) {
     for (size_t i = 0; i < sizeof steps / sizeof steps[0]; i++)
@@ -70,6 +82,7 @@ static void refuse_steps(uint64_t *s, size_t s_length, uint64_t *e, size_t e_len
     expect("write", cindrolf_write_with(s, s_length, e, e_length, r, r_length, 9, UINT64_MAX), answer);
     expect("write scores", cindrolf_write_scores_with(s, s_length, e, e_length, r, r_length, 9, scores, 1), answer);
     expect("write no scores", cindrolf_write_scores_with(s, s_length, e, e_length, r, r_length, 9, NULL, 0), answer);
+    refuse_numbers(s, s_length, e, e_length, r, r_length, answer);
 }
 
 /* Every call on marks refuses these buffers by 1. */
@@ -109,6 +122,10 @@ static void refuse(uint64_t *s, size_t s_length, uint64_t *e, size_t e_length) {
     expect("write", cindrolf_write(s, s_length, e, e_length, 0, 7), WRONG_LENGTH);
     expect("write scores", cindrolf_write_scores(s, s_length, e, e_length, 0, scores, 1), WRONG_LENGTH);
     expect("write no scores", cindrolf_write_scores(s, s_length, e, e_length, 0, NULL, 0), WRONG_LENGTH);
+    for (uint64_t number = 0; number < 10; number++)
+        expect("a step by its number", cindrolf_take(s, s_length, e, e_length, number, 1, 7), WRONG_LENGTH);
+    for (size_t i = 0; i < sizeof no_steps / sizeof no_steps[0]; i++)
+        expect("a number of no step", cindrolf_take(s, s_length, e, e_length, no_steps[i], 1, 7), UNKNOWN_STEP);
     expect("well formed", cindrolf_well_formed(s, s_length, e, e_length), false);
     expect("advise", cindrolf_advise(s, s_length, e, e_length, 1), WRONG_LENGTH);
     struct cindrolf_ledger_part part = cindrolf_read_ledger(s, s_length, e, e_length, 1);
@@ -702,13 +719,21 @@ static const struct {
 } handed_over[] = {{0, 0, 0, 0},  {2, 0, 0, 0},  {3, 0, 0, 1},  {6, 1, 1, 1},  {9, 2, 1, 3},        {14, 2, 1, 4},
                    {18, 2, 2, 4}, {19, 3, 2, 4}, {22, 3, 2, 5}, {23, 3, 2, 6}, {HANDOVER, 3, 3, 6}};
 
+/* The function of a step's own, with the rights that are lent and without. */
+static uint64_t own_with(uint64_t number, uint64_t client, uint64_t value) {
+    return number == 8 ? write_with(client, value) : take_with(steps[number == 9 ? 8 : number].with, client);
+}
+
+static uint64_t own(uint64_t number, uint64_t client, uint64_t value) {
+    if (number == 8)
+        return cindrolf_write(state, CINDROLF_STATE_WORDS, entries, CINDROLF_ENTRY_WORDS, client, value);
+    return steps[number == 9 ? 8 : number].call(state, CINDROLF_STATE_WORDS, entries, CINDROLF_ENTRY_WORDS, client);
+}
+
 /* One step of a plan as a call of its own. A word that is no step is none. */
 static void take_singly(uint64_t word) {
-    uint64_t number = word >> 60, client = word >> 52 & 255;
-    if (number == 8)
-        write_with(client, word & UINT64_C(0xFFFFFFFFFFFFF));
-    else if (number < 10)
-        take_with(steps[number == 9 ? 8 : number].with, client);
+    if (word >> 60 < 10)
+        own_with(word >> 60, word >> 52 & 255, word & UINT64_C(0xFFFFFFFFFFFFF));
 }
 
 static void begin_plan(void) {
@@ -799,6 +824,71 @@ static void check_plans(void) {
     check_step_words();
     check_runs();
     check_refused_plans();
+}
+
+/* The same by the number. */
+static uint64_t numbered_with(uint64_t number, uint64_t client, uint64_t value) {
+    return cindrolf_take_with(state, CINDROLF_STATE_WORDS, entries, CINDROLF_ENTRY_WORDS, rights, CINDROLF_RIGHTS_WORDS, number, client, value);
+}
+
+static uint64_t numbered(uint64_t number, uint64_t client, uint64_t value) {
+    return cindrolf_take(state, CINDROLF_STATE_WORDS, entries, CINDROLF_ENTRY_WORDS, number, client, value);
+}
+
+typedef uint64_t by_number(uint64_t, uint64_t, uint64_t);
+
+/* A step by its number beside its own function, on the log as it is and stays: the answer, and every word of both buffers. */
+static void compare(by_number *single, by_number *taken, uint64_t number, uint64_t client, uint64_t value) {
+    static uint64_t before[2][CINDROLF_ENTRY_WORDS], after[2][CINDROLF_ENTRY_WORDS];
+    memcpy(before[0], state, sizeof state);
+    memcpy(before[1], entries, sizeof entries);
+    uint64_t answer = single(number, client, value);
+    memcpy(after[0], state, sizeof state);
+    memcpy(after[1], entries, sizeof entries);
+    memcpy(state, before[0], sizeof state);
+    memcpy(entries, before[1], sizeof entries);
+    expect("a step by its number", taken(number, client, value), answer);
+    expect("its state words", (uint64_t)(memcmp(after[0], state, sizeof state) != 0), 0);
+    expect("its entries", (uint64_t)(memcmp(after[1], entries, sizeof entries) != 0), 0);
+    memcpy(state, before[0], sizeof state);
+    memcpy(entries, before[1], sizeof entries);
+}
+
+/* 25, for whatever client and value, and nothing changes. */
+static uint64_t unknown_step(uint64_t number, uint64_t client, uint64_t value) {
+    (void)number, (void)client, (void)value;
+    return UNKNOWN_STEP;
+}
+
+static void compare_all(void) {
+    const uint64_t clients[] = {0, 1, 2, UINT64_C(1) << 32, UINT64_MAX}, values[] = {9, UINT64_C(1) << 52, UINT64_MAX};
+    for (size_t c = 0; c < sizeof clients / sizeof clients[0]; c++)
+        for (size_t v = 0; v < sizeof values / sizeof values[0]; v++) {
+            for (uint64_t number = 0; number < 10; number++) {
+                compare(own, numbered, number, clients[c], values[v]);
+                compare(own_with, numbered_with, number, clients[c], values[v]);
+            }
+            for (size_t i = 0; i < sizeof no_steps / sizeof no_steps[0]; i++) {
+                compare(unknown_step, numbered, no_steps[i], clients[c], values[v]);
+                compare(unknown_step, numbered_with, no_steps[i], clients[c], values[v]);
+            }
+        }
+}
+
+/* The answers of the handover's steps, by the words beside them. */
+static const uint64_t answers[HANDOVER] = {
+    0, 0, 256 + 8, 0, 0, CINDROLF_ENTRY, 256 + 25, CINDROLF_ENTRY + 65537, 256 + 3, 0, 0, 0, 0, 256 + 12,
+    0, 0, 0, 2, CINDROLF_ENTRY + 131072, 0, 256 + 6, 0, 256 + 24, 0, 0, 1, 0,
+};
+
+static void check_numbers(void) {
+    begin_plan();
+    for (size_t i = 0; i < HANDOVER; i++) {
+        compare_all();
+        uint64_t word = handover[i];
+        expect("a step of the handover", numbered_with(word >> 60, word >> 52 & 255, word & UINT64_C(0xFFFFFFFFFFFFF)), answers[i]);
+    }
+    compare_all();
 }
 
 /* Words and bytes of these lengths are refused both ways, and stay. */
@@ -1070,6 +1160,7 @@ int main(void) {
     check_marks();
     check_rights();
     check_plans();
+    check_numbers();
     check_rearranged();
     check_sentences();
     check_texts();

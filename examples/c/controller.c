@@ -16,27 +16,13 @@ static void persist(uint64_t step) {
     printf("%s, ", names[step]);
 }
 
-static uint64_t take_step(uint64_t step, uint64_t client, uint64_t value) {
-    switch (step) {
-    case CINDROLF_STEP_BECOME: return cindrolf_become(LOG, client);
-    case CINDROLF_STEP_ABDICATE: return cindrolf_abdicate(LOG, client);
-    case CINDROLF_STEP_FETCH: return cindrolf_fetch(LOG, client);
-    case CINDROLF_STEP_CLOSE_LAST: return cindrolf_close_last(LOG, client);
-    case CINDROLF_STEP_FINISH: return cindrolf_finish(LOG, client);
-    case CINDROLF_STEP_CREATE: return cindrolf_create(LOG, client);
-    case CINDROLF_STEP_APPEND: return cindrolf_append(LOG, client);
-    case CINDROLF_STEP_WRITE: return cindrolf_write(LOG, client, value);
-    default: return cindrolf_close_own(LOG, client);
-    }
-}
-
 /* Takes step after step until the read is stored: the answer of its write. Or a refusal; or CINDROLF_NO_STEP, where another is named. */
 static uint64_t store(uint64_t client, uint64_t value) {
     for (;;) {
         uint64_t step = cindrolf_advise(LOG, client);
         if (step >= CINDROLF_NO_STEP)
             return step;
-        uint64_t answer = take_step(step, client, value);
+        uint64_t answer = cindrolf_take(LOG, step, client, value);
         if (answer > CINDROLF_REFUSED && answer < CINDROLF_ENTRY)
             return answer;
         persist(step);

@@ -19,7 +19,7 @@ fn main() {
     if !archive.is_file() {
         println!("cargo::error=no archive at {}", archive.display());
         println!(
-            "cargo::error=build it by `rust/archive` in the root of the repository, or name its folder in CINDROLF_ARCHIVE_DIR"
+            "cargo::error=build it by `tools/archive` in the root of the repository, or name its folder in CINDROLF_ARCHIVE_DIR"
         );
         return;
     }

@@ -2,6 +2,7 @@
 use Prim.Native.Nat.{ℕ}
 use mathlib.Core.Path.{_≡_, sym, ap, _∙_, subst}
 use mathlib.Core.List.{List}
+use mathlib.Core.Option.{Option, none, some}
 use lib.ListN.{length, take, drop}
 use Rattle.checks.specs.Checks.{Check, Outcome, stops, goes, outcome, first}
 use Rattle.chain.specs.declared.answer.Refusal.{Refusal}
@@ -17,8 +18,9 @@ use Rattle.chain.specs.Operations.{Buffers, stepAnswer, afterStep, Result, fres
 use Rattle.chain.specs.Operations.{readLedgerChecks, readLedgerAnswer, readLedgerPart, readChainAnswer, readChainOutput}
 use Rattle.chain.specs.Windows.{firstWindow}
 use Rattle.chain.specs.Marks.{setChecks, setAnswer, afterSet, dropChecks, dropAnswer, afterDrop, readMarkAnswer, readMarkOutput}
-use Rattle.chain.specs.Plans.{forecast}
+use Rattle.chain.specs.Plans.{plannedAnswer, afterPlanned, forecast}
 use Rattle.plans.specs.declared.forecast.Forecast.{Forecast}
+use Rattle.plans.specs.Numbers.{TakeResult}
 use Rattle.plans.specs.Runs.{Foretells}
 use Rattle.chain.specs.Laws.Numbers.{NumbersBelow, step-numbers}
 use Rattle.fresh.specs.Fresh.{FreshResult}
@@ -43,6 +45,10 @@ FreshCall n b = Call (freshAnswer n b) (afterFresh n b)
 
 abbrev pub StepCall : Step → Buffers → ℕ → List ℕ → List ℕ → Type 0
 StepCall x b = Call (stepAnswer x b) (afterStep x b)
+
+-- A step by its number: 25 where there is none, before all else, and then as the step itself.
+abbrev pub TakeCall : Option Step → Buffers → ℕ → List ℕ → List ℕ → Type 0
+TakeCall x b = Call (plannedAnswer x b) (afterPlanned x b)
 
 -- The rights of the functions that take none: all ten of each client.
 abbrev pub allOf : List ℕ → List ℕ
@@ -130,6 +136,21 @@ module _ {x : Step} {b : Buffers} {a : Answer} {state entries : List ℕ} (o : R
 
   pub step-called : {r : ℕ} → r ≡ answerNumber a → StepCall x b r state entries
   step-called e = record { answers = e ∙ ap answerNumber (o .answers); state-words = o .state-words; entry-words = o .entry-words }
+
+module _ {x : Option Step} {b : Buffers} {a : Answer} {state entries : List ℕ} (o : TakeResult x b a state entries) where
+  pub take-small : NumbersBelow a
+  take-small = subst NumbersBelow (sym (o .answers)) (at x)
+    where
+      at : (x : Option Step) → NumbersBelow (plannedAnswer x b)
+      at none = tt
+      at (some y) = step-numbers y b
+
+  pub take-called : {r : ℕ} → r ≡ answerNumber a → TakeCall x b r state entries
+  take-called e = record {
+    answers = e ∙ ap answerNumber (o .answers);
+    state-words = ap (λ (c : Buffers). c .state) (o .words);
+    entry-words = ap (λ (c : Buffers). c .entries) (o .words);
+  }
 
 module _ {l : ℕ} {b : Buffers} {a : Answer} {start count : ℕ} (o : Locates l b a start count) where
   pub ledger-small : NumbersBelow a

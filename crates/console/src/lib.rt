@@ -1,6 +1,8 @@
 // A session's input read on a file descriptor, and what is printed of it written to standard output.
 use libc::STDOUT_FILENO;
 use limits::INPUT_LIMIT;
+use limits::RUN_TOTAL_LIMIT;
+use limits::TRANSCRIPT_LIMIT;
 use text::lent::Printed;
 
 // What is printed: the transcript of the session, or its run total.
@@ -10,7 +12,7 @@ pub enum Product {
 }
 
 fn print_transcript(input: &[u8]) -> bool {
-    let mut text = [0u8; session::TEXT_LIMIT];
+    let mut text = [0u8; TRANSCRIPT_LIMIT];
     match session::transcript(input, &mut text) {
         Printed::Bytes(n) => io::write_all(STDOUT_FILENO, &text[..n]),
         Printed::TextTooShort => false,
@@ -18,7 +20,7 @@ fn print_transcript(input: &[u8]) -> bool {
 }
 
 fn print_total(input: &[u8]) -> bool {
-    let mut text = [0u8; total::TEXT_LIMIT];
+    let mut text = [0u8; RUN_TOTAL_LIMIT];
     match total::run_total(input, &mut text) {
         Printed::Bytes(n) => io::write_all(STDOUT_FILENO, &text[..n]),
         Printed::TextTooShort => false,

@@ -1,4 +1,4 @@
-// The limits of the log. A constant whose name ends in LIMIT is the most that is taken: it is itself within the limit.
+// The limits of the log and of its programs. A constant whose name ends in LIMIT is the most that is taken: it is itself within the limit.
 
 // Clients that share a log.
 pub const CLIENT_LIMIT: u64 = 16;
@@ -30,3 +30,8 @@ pub const REARRANGE_LIMIT: usize = 4096;
 
 // Bytes of a session's input.
 pub const INPUT_LIMIT: usize = 16384;
+
+// Bytes of a session's transcript, and of its run total. No input leads to more.
+pub const TRANSCRIPT_LIMIT: usize = 540678;
+
+pub const RUN_TOTAL_LIMIT: usize = 12799;

@@ -1,11 +1,11 @@
 // What is counted of a step's answer: an entry, or a ledger number, that of a done create.
-use crate::word::Planned;
+use crate::number::Planned;
 use chain::answer::Answer;
 use dispatch::Step;
 ghost use mathlib.Core.Path.{_≡_};
 ghost use Rattle.chain.specs.Plans.{isEntry, isDone, isLedger};
 ghost use Rattle.dispatch.specs.Dispatch.{kindOf};
-ghost use Rattle.plans.specs.Words.{CountsLedgers};
+ghost use Rattle.plans.specs.Numbers.{CountsLedgers};
 
 pub fn is_entry(a: Answer) -> u64
     ensures { λ r. ⌜ r ≡ isEntry a ⌝ }

@@ -7,7 +7,7 @@ use lib.ListN.{length, length-append, length-map}
 use Rattle.text.specs.Bytes.{bytes}
 use Rattle.text.specs.Decimal.{decimal}
 use Rattle.text.specs.DecimalLaws.{decimal-length}
-use Rattle.limits.specs.Limits.{clientLimit, inputLimit}
+use Rattle.limits.specs.Limits.{clientLimit, inputLimit, transcriptLimit}
 use Rattle.chain.specs.declared.answer.Answer.{Answer}
 use Rattle.chain.specs.declared.answer.Answer.the-variants.{Done, WasClosed, Behind, Written, Refused}
 use Rattle.chain.specs.Answers.{refusalNumber}
@@ -27,7 +27,7 @@ use Rattle.requests.specs.OpeningLaws.{printed-length}
 use Rattle.requests.specs.BeginningLaws.{stays-good, reading-length}
 use Rattle.replies.specs.Replies.{answerText, replyText, replyLine, entryText, entriesText, chainLine}
 use Rattle.session.specs.Parts.{Reads}
-use Rattle.session.specs.Transcript.{textLimit, session, sessionText, transcript}
+use Rattle.session.specs.Transcript.{session, sessionText, transcript}
 
 answer-length : (a : Answer) → NumbersBelow a → length (answerText a) ≤ 21
 answer-length Done h = omega arith
@@ -117,7 +117,7 @@ reads n some few xs out h =
     let r = read-all b (stays-good n some few xs) out l in
     record { answers = r .0; output = r .1; fits = l }
 
-session-limit : (n : ℕ) (ls : List Line) → 1 ≤ n → n ≤ clientLimit → length ls ≤ inputLimit → length (sessionText n ls) ≤ textLimit
+session-limit : (n : ℕ) (ls : List Line) → 1 ≤ n → n ≤ clientLimit → length ls ≤ inputLimit → length (sessionText n ls) ≤ transcriptLimit
 session-limit n ls some few h = omega (
   arith,
   session-length (allRights n) ls 1 (freshBuffers sessionCapacity n) (omega arith),
@@ -125,6 +125,6 @@ session-limit n ls some few h = omega (
   reading-length n some few (taken (allRights n) ls),
 )
 
-pub transcript-length : (input : List ℕ) → length (transcript input) ≤ textLimit
+pub transcript-length : (input : List ℕ) → length (transcript input) ≤ transcriptLimit
 unfolding transcript
-transcript-length = printed-length sessionText textLimit (omega arith) session-limit
+transcript-length = printed-length sessionText transcriptLimit (omega arith) session-limit

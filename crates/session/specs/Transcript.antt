@@ -3,6 +3,7 @@ use Prim.Native.Nat.{ℕ, suc}
 use mathlib.Core.List.{List, [], _∷_, _++_}
 use Rattle.text.specs.declared.lent.Printed.{Printed}
 use Rattle.text.specs.Lent.{lentAnswer, lentText}
+use Rattle.limits.specs.Limits.{transcriptLimit}
 use Rattle.chain.specs.Rights.{allRights}
 use Rattle.chain.specs.Operations.{Buffers, freshBuffers, chainReading}
 use Rattle.requests.specs.Lines.{Line}
@@ -24,11 +25,8 @@ unfoldable pub transcript : List ℕ → List ℕ
 transcript input = printed sessionText (opening input)
 
 -- The transcript in a lent text. A text below the limit is refused, whatever the input; no transcript is longer (Lengths).
-abbrev pub textLimit : ℕ
-textLimit = 540678
-
 abbrev pub transcriptAnswer : List ℕ → List ℕ → Printed
-transcriptAnswer input text = lentAnswer textLimit (transcript input) text
+transcriptAnswer input text = lentAnswer transcriptLimit (transcript input) text
 
 abbrev pub transcriptText : List ℕ → List ℕ → List ℕ
-transcriptText input text = lentText textLimit (transcript input) text
+transcriptText input text = lentText transcriptLimit (transcript input) text

@@ -7,6 +7,7 @@ use lib.ListN.{length, take, drop, length-append, length-map}
 use Rattle.text.specs.Bytes.{bytes}
 use Rattle.text.specs.Decimal.{decimal}
 use Rattle.text.specs.DecimalLaws.{decimal-length}
+use Rattle.limits.specs.Limits.{runTotalLimit}
 use Rattle.checks.specs.Checks.{Outcome, stops, goes, outcome}
 use Rattle.records.specs.Layout.{placeIndex}
 use Rattle.records.specs.Words.{unpackPlace}
@@ -28,7 +29,7 @@ use Rattle.totals.specs.TotalsTheorem.{totals-show-history}
 use Rattle.requests.specs.Requests.{taken}
 use Rattle.requests.specs.Opening.{sessionCapacity}
 use Rattle.requests.specs.OpeningLaws.{printed-length}
-use Rattle.total.specs.Output.{ledgerLine, totalLine, roundedLine, totalLines, endLines, lineOf, endOf, partLine, ledgerLines, logText, sessionTotal, output, textLimit}
+use Rattle.total.specs.Output.{ledgerLine, totalLine, roundedLine, totalLines, endLines, lineOf, endOf, partLine, ledgerLines, logText, sessionTotal, output}
 use Rattle.total.specs.ListingLaws.{list-few}
 use Rattle.total.specs.SummedLaws.{sums-session}
 
@@ -89,7 +90,7 @@ module _ (b : Buffers) (i : IsLog b) (n : ℕ) (small : n < 2 ^ 64) (is : runTot
     length-append (partLine (unpackPlace w .0) b) (ledgerLines (map (λ word. unpackPlace word .0) words) b),
   )
 
-  pub log-length : length (logText b) ≤ textLimit
+  pub log-length : length (logText b) ≤ runTotalLimit
   unfolding logText listIn
   log-length =
       let words : List ℕ = take (head (b .state) .«list_length») (drop (placeIndex 1) (b .state)) in
@@ -103,8 +104,8 @@ module _ (b : Buffers) (i : IsLog b) (n : ℕ) (small : n < 2 ^ 64) (is : runTot
         length-append (ledgerLines (held b .list) b) (endOf (runTotal b)),
       )
 
-pub output-length : (input : List ℕ) → length (output input) ≤ textLimit
+pub output-length : (input : List ℕ) → length (output input) ≤ runTotalLimit
 unfolding output
-output-length = printed-length sessionTotal textLimit (omega arith)
+output-length = printed-length sessionTotal runTotalLimit (omega arith)
     (λ n ls some few h. let s = sums-session n some few (taken (allRights n) ls) in
     log-length (afterSteps (taken (allRights n) ls) (freshBuffers sessionCapacity n)) (s .log) _ (omega (arith, s .bounded)) (s .total))

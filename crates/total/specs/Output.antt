@@ -5,6 +5,7 @@ use Rattle.text.specs.declared.lent.Printed.{Printed}
 use Rattle.text.specs.Bytes.{bytes}
 use Rattle.text.specs.Decimal.{decimal}
 use Rattle.text.specs.Lent.{lentAnswer, lentText}
+use Rattle.limits.specs.Limits.{runTotalLimit}
 use Rattle.chain.specs.Rights.{allRights}
 use Rattle.chain.specs.Operations.{Buffers, held, afterSteps, freshBuffers}
 use Rattle.amounts.specs.Amounts.{pointed, fixed}
@@ -65,11 +66,8 @@ unfoldable pub output : List ℕ → List ℕ
 output input = printed sessionTotal (opening input)
 
 -- The output in a lent text. A text below the limit is refused, whatever the input; no output is longer (Lengths).
-abbrev pub textLimit : ℕ
-textLimit = 12799
-
 abbrev pub outputAnswer : List ℕ → List ℕ → Printed
-outputAnswer input text = lentAnswer textLimit (output input) text
+outputAnswer input text = lentAnswer runTotalLimit (output input) text
 
 abbrev pub outputText : List ℕ → List ℕ → List ℕ
-outputText input text = lentText textLimit (output input) text
+outputText input text = lentText runTotalLimit (output input) text

@@ -11,6 +11,7 @@ use Rattle.chain.specs.declared.advice.Advice.the-variants as advices
 use Rattle.chain.specs.Answers.{refusalNumber}
 use Rattle.chain.specs.Steps.{Step}
 use Rattle.chain.specs.Operations.{Buffers, stepAnswer, freshAnswer, readLedgerAnswer, readChainAnswer, ledgerAt}
+use Rattle.chain.specs.Plans.{numberedStep, plannedAnswer}
 use Rattle.chain.specs.Adviser.{adviser}
 use Rattle.chain.specs.Windows.{firstWindow}
 use Rattle.chain.specs.Marks.{setAnswer, dropAnswer, readMarkAnswer}
@@ -24,6 +25,8 @@ NotFourteen r = refusalNumber r ≡ 14 → ⊥
 
 pub record FourteenIsWithdrawn : Type 0 where
   pub step : (x : Step) (b : Buffers) (r : Refusal) → stepAnswer x b ≡ answers.Refused r → NotFourteen r
+  pub by-number : (rights : List ℕ) (number client value : ℕ) (b : Buffers) (r : Refusal)
+      → plannedAnswer (numberedStep rights number client value) b ≡ answers.Refused r → NotFourteen r
   pub fresh : (n : ℕ) (b : Buffers) (r : Refusal) → freshAnswer n b ≡ answers.Refused r → NotFourteen r
   pub read-ledger : (l : ℕ) (b : Buffers) (r : Refusal) → readLedgerAnswer l b ≡ answers.Refused r → NotFourteen r
   pub read-chain : (b : Buffers) (out : List ℕ) (r : Refusal) → readChainAnswer b out ≡ counts.Refused r → NotFourteen r

@@ -1,7 +1,7 @@
 //! What a page must show after each step: lines and replies from the session program's output, the log from the model.
 
+use expected::grammar::{Session, step};
 use expected::log::Log;
-use expected::session::{Session, step};
 use model::Step;
 use model::sentences;
 use model::source::{Metadata, Source, Status};
@@ -132,13 +132,13 @@ fn seen(log: &Source) -> Moment {
 fn stage(log: &Source, status: Status, ledger: u64) -> (String, String) {
     let (text, word) = match status {
         Status::Waiting => ("does not lead".into(), ""),
-        Status::GetMdForClosing => ("fetches the list next".into(), "fetch"),
-        Status::CloseLastLedger => (format!("fences ledger {ledger} next"), "fence"),
-        Status::PendingCreateLedger => ("creates a ledger next".into(), "create"),
-        Status::PendingAppendLedger => (format!("appends ledger {ledger} next"), "append"),
-        Status::HasOpenLedger if is_fenced(log, ledger) => (format!("writes to fenced ledger {ledger}"), "fenced"),
-        Status::HasOpenLedger => (format!("writes to ledger {ledger}"), "write"),
-        Status::FinishLastLedger => (format!("closes ledger {ledger} next"), "close"),
+        Status::GetMdForClosing => ("fetches the list next".into(), "fetching"),
+        Status::CloseLastLedger => (format!("fences ledger {ledger} next"), "closing last"),
+        Status::PendingCreateLedger => ("creates a ledger next".into(), "creating"),
+        Status::PendingAppendLedger => (format!("appends ledger {ledger} next"), "appending"),
+        Status::HasOpenLedger if is_fenced(log, ledger) => (format!("writes to fenced ledger {ledger}"), "writing"),
+        Status::HasOpenLedger => (format!("writes to ledger {ledger}"), "writing"),
+        Status::FinishLastLedger => (format!("closes ledger {ledger} next"), "finishing"),
     };
     (text, word.into())
 }

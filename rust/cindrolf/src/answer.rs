@@ -1,6 +1,6 @@
 //! What each operation answers, and the numbers by which answers cross the boundary.
 
-use crate::{Error, Refusal};
+use crate::{Error, Kind, Refusal};
 use std::fmt;
 
 /// The number of an entry, from 0: its index in the entry buffer.
@@ -139,34 +139,23 @@ impl fmt::Display for Answer {
     }
 }
 
-/// The step that a client should take next.
-#[derive(Clone, Copy, Debug, PartialEq, Eq, Hash)]
-pub enum Advice {
-    /// The client is named, and does not lead.
-    Become,
-    /// The client leads, and another is named.
-    Abdicate,
-    /// The client is named, as for every step below, and at the step's stage.
-    Fetch,
-    /// It has fetched a ledger.
-    CloseLast,
-    /// Its last ledger is fenced.
-    Finish,
-    /// It has no ledger that it may write to or append.
-    Create,
-    /// It has created a ledger.
-    Append,
-    /// It may write, a value or scores.
-    Write,
-    /// Its ledger was fenced by another leader.
-    CloseOwn,
-}
+/// The kind of step that a client should take next: any but name, which is for the election.
+///
+/// | Advice | Where the client |
+/// |---|---|
+/// | become | is named, and does not lead |
+/// | abdicate | leads, and another is named |
+/// | fetch, close last, finish, create, append, write | is named, and at the step's stage |
+/// | close own | is named, and another leader has fenced its ledger |
+pub type Advice = Kind;
 
 const DONE: u64 = 0;
 const WAS_CLOSED: u64 = 1;
 const BEHIND: u64 = 2;
 const REFUSED: u64 = 256;
 const ENTRY: u64 = 1 << 32;
+/// From the adviser: there is no step to take.
+const NO_ADVICE: u64 = 15;
 
 /// What an entry's number counts for in an answer; its place in its ledger stands below.
 const NUMBER_UNIT: u64 = 1 << 16;
@@ -215,20 +204,12 @@ pub(crate) fn entry(number: u64) -> Result<Position, Error> {
     }
 }
 
-/// A step is its place in the reference's order of steps.
+/// A step is its kind's number. Name is never advised.
 pub(crate) fn advice(number: u64) -> Result<Option<Advice>, Error> {
-    match number {
-        1 => Ok(Some(Advice::Become)),
-        2 => Ok(Some(Advice::Abdicate)),
-        3 => Ok(Some(Advice::Fetch)),
-        4 => Ok(Some(Advice::CloseLast)),
-        5 => Ok(Some(Advice::Finish)),
-        6 => Ok(Some(Advice::Create)),
-        7 => Ok(Some(Advice::Append)),
-        8 => Ok(Some(Advice::Write)),
-        9 => Ok(Some(Advice::CloseOwn)),
-        15 => Ok(None),
-        _ => Err(error(number)),
+    match Kind::from_number(number) {
+        _ if number == NO_ADVICE => Ok(None),
+        None | Some(Kind::Name) => Err(error(number)),
+        advised => Ok(advised),
     }
 }
 
@@ -257,7 +238,7 @@ mod tests {
     // Name is never advised.
     #[test]
     fn advised_steps() {
-        use Advice::*;
+        use Kind::*;
         let steps = [Become, Abdicate, Fetch, CloseLast, Finish, Create, Append, Write, CloseOwn];
         for (number, step) in (1..).zip(steps) {
             assert_eq!(advice(number), Ok(Some(step)));

@@ -51,7 +51,7 @@
 
 pub use crate::storage::{rearrange, restore};
 use crate::{
-    Advice, CloseLast, Error, Finish, Forecast, LedgerNumber, LedgerSum, ListPlace, MarkName, Position, Progress,
+    Advice, CloseLast, Error, Finish, Forecast, Kind, LedgerNumber, LedgerSum, ListPlace, MarkName, Position, Progress,
     ReadingPlace, Refusal, RunTotal, Said, answer, raw,
 };
 
@@ -385,8 +385,8 @@ pub fn read_mark(
 }
 
 /// Writes the sentence of a refusal to the front of the text, and answers how many bytes it has. The bytes after it
-/// stay. The step is given by its number, 0 to 9 in the order name, become, abdicate, fetch, close last, finish, create,
-/// append, write, close own; the text has [`TEXT_BYTES`](crate::TEXT_BYTES) bytes or more.
+/// stay. The step is given by the number of its [`Kind`], 0 to 9; another number is refused. The text has
+/// [`TEXT_BYTES`](crate::TEXT_BYTES) bytes or more.
 pub fn sentence(step: u64, client: u64, refusal: u64, text: &mut [u8]) -> Result<usize, Error> {
     // SAFETY: the text alone is changed, and it is exclusive; the answer is a struct of two numbers.
     let said = unsafe { raw::cindrolf_sentence(step, client, refusal, text.as_mut_ptr(), text.len()) };
@@ -399,10 +399,10 @@ pub fn sentence(step: u64, client: u64, refusal: u64, text: &mut [u8]) -> Result
 /// of them.
 ///
 /// ```
-/// use cindrolf::{Error, Refusal, Said, calls};
+/// use cindrolf::{Error, Kind, Refusal, Said, calls};
 ///
 /// let said = calls::read_sentence(b"write of client 7: the log is full")?;
-/// assert_eq!(said, Some(Said { step: 8, client: 7, refusal: Refusal::LogFull }));
+/// assert_eq!(said, Some(Said { kind: Kind::Write, client: 7, refusal: Refusal::LogFull }));
 /// assert_eq!(calls::read_sentence(b"write of client 07: the log is full")?, None);
 /// # Ok::<(), Error>(())
 /// ```
@@ -413,7 +413,8 @@ pub fn read_sentence(text: &[u8]) -> Result<Option<Said>, Error> {
         0 => Ok(None),
         1 => {
             let refusal = Refusal::from_number(said.refusal).ok_or(Error::UnknownAnswer(said.refusal))?;
-            Ok(Some(Said { step: said.step, client: said.client, refusal }))
+            let kind = Kind::from_number(said.step).ok_or(Error::UnknownAnswer(said.step))?;
+            Ok(Some(Said { kind, client: said.client, refusal }))
         }
         found => Err(Error::UnknownAnswer(found)),
     }

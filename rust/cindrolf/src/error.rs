@@ -1,6 +1,6 @@
 //! Refusals, and what else may keep an operation from its answer.
 
-use crate::{TEXT_BYTES, VERSION, calls};
+use crate::{Kind, TEXT_BYTES, VERSION, calls};
 use std::fmt;
 
 /// Why an operation gave no answer.
@@ -168,20 +168,20 @@ impl Refusal {
         self as u64
     }
 
-    /// The refusal as one sentence, with the step that was refused and its client. The step is given by its number, 0 to
-    /// 9, as to [`calls::sentence`](crate::calls::sentence()); the client is at most 255.
+    /// The refusal as one sentence, with the kind of step that was refused and its client, which is at most 255.
     ///
     /// ```
-    /// use cindrolf::{Error, Refusal};
+    /// use cindrolf::{Error, Kind, Refusal};
     ///
-    /// let sentence = Refusal::DoesNotLead.sentence(4, 7)?;
+    /// let sentence = Refusal::DoesNotLead.sentence(Kind::CloseLast, 7)?;
     /// assert_eq!(sentence, "close last of client 7: the client does not lead");
-    /// assert_eq!(Refusal::DoesNotLead.sentence(4, 256), Err(Error::Refused(Refusal::NoSentence)));
+    /// let none = Refusal::DoesNotLead.sentence(Kind::CloseLast, 256);
+    /// assert_eq!(none, Err(Error::Refused(Refusal::NoSentence)));
     /// # Ok::<(), Error>(())
     /// ```
-    pub fn sentence(self, step: u64, client: u64) -> Result<String, Error> {
+    pub fn sentence(self, kind: Kind, client: u64) -> Result<String, Error> {
         let mut text = [0; TEXT_BYTES];
-        let length = calls::sentence(step, client, self.number(), &mut text)?;
+        let length = calls::sentence(kind.number(), client, self.number(), &mut text)?;
         Ok(String::from_utf8_lossy(&text[..length]).into_owned())
     }
 }
@@ -189,8 +189,8 @@ impl Refusal {
 /// What a sentence says, as [`calls::read_sentence`](crate::calls::read_sentence()) reads it.
 #[derive(Clone, Copy, Debug, PartialEq, Eq, Hash)]
 pub struct Said {
-    /// The step that was refused, by its number, 0 to 9.
-    pub step: u64,
+    /// The kind of step that was refused.
+    pub kind: Kind,
     /// Its client, at most 255.
     pub client: u64,
     /// The refusal.

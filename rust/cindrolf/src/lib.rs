@@ -43,21 +43,14 @@
 //! A controller with a read to store takes the steps that it is advised, and persists the log after each:
 //!
 //! ```
-//! use cindrolf::{Advice, EntryNumber, Error, Log, Position, Refusal};
+//! use cindrolf::{Answer, EntryNumber, Error, Log, Position, Refusal, Step};
 //!
 //! /// Where the read is stored; none where another client is named.
 //! fn store(log: &mut Log, client: u64, value: u64) -> Result<Option<Position>, Error> {
-//!     while let Some(step) = log.advise(client)? {
-//!         match step {
-//!             Advice::Become => log.become_leader(client)?,
-//!             Advice::Abdicate => log.abdicate(client)?,
-//!             Advice::Fetch => log.fetch(client)?,
-//!             Advice::CloseLast => drop(log.close_last(client)?), // a behind shows in the next advice
-//!             Advice::Finish => drop(log.finish(client)?),
-//!             Advice::Create => log.create(client)?,
-//!             Advice::Append => drop(log.append(client)?),
-//!             Advice::CloseOwn => drop(log.close_own(client)?),
-//!             Advice::Write => return log.write(client, value).map(Some),
+//!     while let Some(kind) = log.advise(client)? {
+//!         // A behind shows in the next advice.
+//!         if let Answer::Stored(at) = log.take(client, Step::new(kind, value))? {
+//!             return Ok(Some(at));
 //!         }
 //!     }
 //!     Ok(None)
@@ -192,8 +185,9 @@
 //!
 //! let mut log = Log::fresh(1)?;
 //! let rights = Rights::all(1)?;
-//! let steps = [Step::Become, Step::Fetch, Step::Create, Step::Append, Step::Write(201), Step::Write(202), Step::Become];
-//! let plan = steps.map(|step| StepWord::new(0, step)).into_iter().collect::<Result<Vec<_>, _>>()?;
+//! let lead = [Step::BECOME, Step::FETCH, Step::CREATE, Step::APPEND];
+//! let steps = lead.into_iter().chain([Step::write(201), Step::write(202), Step::BECOME]);
+//! let plan = steps.map(|step| StepWord::new(0, step)).collect::<Result<Vec<_>, _>>()?;
 //!
 //! // The last step, by a client that leads already, would be refused, and the budget ends before it.
 //! assert_eq!(log.forecast(&rights, &plan, 7), Forecast { entries: 2, ledgers: 1, refusals: 1 });
@@ -222,14 +216,13 @@
 //! A refusal as one sentence, for a screen, and read back from it:
 //!
 //! ```
-//! use cindrolf::{Error, Log, Said, calls};
+//! use cindrolf::{Error, Kind, Log, Said, calls};
 //!
-//! const WRITE: u64 = 8;
 //! let mut log = Log::fresh(8)?;
 //! let refusal = log.write(7, 1).unwrap_err().refusal().expect("client 7 does not lead");
-//! let sentence = refusal.sentence(WRITE, 7)?;
+//! let sentence = refusal.sentence(Kind::Write, 7)?;
 //! assert_eq!(sentence, "write of client 7: the client does not lead");
-//! assert_eq!(calls::read_sentence(sentence.as_bytes())?, Some(Said { step: WRITE, client: 7, refusal }));
+//! assert_eq!(calls::read_sentence(sentence.as_bytes())?, Some(Said { kind: Kind::Write, client: 7, refusal }));
 //! # Ok::<(), Error>(())
 //! ```
 
@@ -237,7 +230,7 @@ mod answer;
 pub mod calls;
 mod capacity;
 mod error;
-mod limits;
+mod kind;
 mod log;
 mod mark;
 mod plan;
@@ -245,6 +238,7 @@ mod plan;
 pub mod raw;
 mod rights;
 pub mod sharing;
+mod step;
 mod storage;
 mod total;
 mod version;
@@ -255,14 +249,17 @@ pub use answer::{
 };
 pub use capacity::Capacity;
 pub use error::{Error, Refusal, Said};
+pub use kind::Kind;
+#[doc(inline)]
 pub use limits::{
-    CLIENT_LIMIT, ENTRY_WORDS, MARK_WORDS, MARKS_LIMIT, REARRANGE_LIMIT, RIGHTS_WORDS, SCORE_LIMIT, SCORES_LIMIT,
-    SMALL_ENTRY_WORDS, STATE_WORDS, TEXT_BYTES, VALUE_LIMIT, WINDOW_LIMIT,
+    CLIENT_LIMIT, CLIENT_NUMBER_LIMIT, ENTRY_WORDS, LEDGER_LIMIT, MARK_WORDS, MARKS_LIMIT, REARRANGE_LIMIT,
+    RIGHTS_WORDS, SCORE_LIMIT, SCORES_LIMIT, SMALL_ENTRY_WORDS, STATE_WORDS, TEXT_BYTES, VALUE_LIMIT, WINDOW_LIMIT,
 };
 pub use log::{Log, LogMut, LogRef, PermittedLog};
 pub use mark::MarkName;
-pub use plan::{Forecast, Step, StepWord};
+pub use plan::{Forecast, StepWord};
 pub use rights::{Right, Rights};
+pub use step::Step;
 pub use storage::{rearrange, restore};
 pub use total::{LedgerSum, RunTotal};
 pub use version::{VERSION, check_version};

@@ -1,7 +1,7 @@
 //! A log that owns its buffers, and logs that borrow them.
 
 use crate::{
-    Advice, Answer, Capacity, CloseLast, Error, Finish, Forecast, LedgerNumber, LedgerSum, ListPlace, MarkName,
+    Advice, Answer, Capacity, CloseLast, Error, Finish, Forecast, Kind, LedgerNumber, LedgerSum, ListPlace, MarkName,
     Position, Progress, ReadingPlace, Refusal, Rights, RunTotal, STATE_WORDS, Step, StepWord, View, calls,
     check_version,
 };
@@ -281,7 +281,7 @@ impl<'a> LogRef<'a> {
     }
 }
 
-// Any step, for whoever has it as a value.
+// Any step, for a caller that has it as a value.
 macro_rules! take {
     ($($log:ty),*) => {$(
         impl $log {
@@ -291,25 +291,25 @@ macro_rules! take {
             /// use cindrolf::{Answer, Error, Log, Refusal, Step};
             ///
             /// let mut log = Log::fresh(1)?;
-            /// for step in [Step::Become, Step::Fetch, Step::Create, Step::Append] {
+            /// for step in [Step::BECOME, Step::FETCH, Step::CREATE, Step::APPEND] {
             ///     assert_eq!(log.take(0, step)?, Answer::Done);
             /// }
-            /// assert_eq!(log.take(0, Step::Write(7))?.to_string(), "entry 0 place 0");
-            /// assert_eq!(log.take(0, Step::Become), Err(Error::Refused(Refusal::AlreadyLeads)));
+            /// assert_eq!(log.take(0, Step::write(7))?.to_string(), "entry 0 place 0");
+            /// assert_eq!(log.take(0, Step::BECOME), Err(Error::Refused(Refusal::AlreadyLeads)));
             /// # Ok::<(), Error>(())
             /// ```
             pub fn take(&mut self, client: u64, step: Step) -> Result<Answer, Error> {
-                match step {
-                    Step::Name => self.name(client).map(Answer::from),
-                    Step::Become => self.become_leader(client).map(Answer::from),
-                    Step::Abdicate => self.abdicate(client).map(Answer::from),
-                    Step::Fetch => self.fetch(client).map(Answer::from),
-                    Step::CloseLast => self.close_last(client).map(Answer::from),
-                    Step::Finish => self.finish(client).map(Answer::from),
-                    Step::Create => self.create(client).map(Answer::from),
-                    Step::Append => self.append(client).map(Answer::from),
-                    Step::Write(value) => self.write(client, value).map(Answer::from),
-                    Step::CloseOwn => self.close_own(client).map(Answer::from),
+                match step.kind() {
+                    Kind::Name => self.name(client).map(Answer::from),
+                    Kind::Become => self.become_leader(client).map(Answer::from),
+                    Kind::Abdicate => self.abdicate(client).map(Answer::from),
+                    Kind::Fetch => self.fetch(client).map(Answer::from),
+                    Kind::CloseLast => self.close_last(client).map(Answer::from),
+                    Kind::Finish => self.finish(client).map(Answer::from),
+                    Kind::Create => self.create(client).map(Answer::from),
+                    Kind::Append => self.append(client).map(Answer::from),
+                    Kind::Write => self.write(client, step.value()).map(Answer::from),
+                    Kind::CloseOwn => self.close_own(client).map(Answer::from),
                 }
             }
         }

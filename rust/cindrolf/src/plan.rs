@@ -1,77 +1,17 @@
 //! Steps as words, which a plan is made of, and what a run of it adds.
 
-use crate::{Error, Refusal, VALUE_LIMIT, value_of};
+use crate::{CLIENT_NUMBER_LIMIT, Error, Kind, Refusal, Step, VALUE_LIMIT, value_of};
 
-/// A step that a plan can have. A write of scores is none of them.
-#[derive(Clone, Copy, Debug, PartialEq, Eq, Hash)]
-pub enum Step {
-    /// The client becomes the named leader.
-    Name,
-    /// The client starts to lead.
-    Become,
-    /// The client stops leading.
-    Abdicate,
-    /// The client fetches the list and its last ledger.
-    Fetch,
-    /// The client fences the last ledger.
-    CloseLast,
-    /// The client closes the ledger that is fenced.
-    Finish,
-    /// The client creates a ledger.
-    Create,
-    /// The client appends its ledger to the list.
-    Append,
-    /// The client writes this value.
-    Write(u64),
-    /// The client closes its own ledger.
-    CloseOwn,
-}
-
-impl Step {
-    /// Its number, 0 to 9: its place in the reference's order of steps.
-    pub const fn number(self) -> u64 {
-        match self {
-            Step::Name => 0,
-            Step::Become => 1,
-            Step::Abdicate => 2,
-            Step::Fetch => 3,
-            Step::CloseLast => 4,
-            Step::Finish => 5,
-            Step::Create => 6,
-            Step::Append => 7,
-            Step::Write(_) => 8,
-            Step::CloseOwn => 9,
-        }
-    }
-
-    /// The step of a number, with the value where it is a write. A number of 10 or above is none.
-    pub const fn from_number(number: u64, value: u64) -> Option<Self> {
-        match number {
-            0 => Some(Step::Name),
-            1 => Some(Step::Become),
-            2 => Some(Step::Abdicate),
-            3 => Some(Step::Fetch),
-            4 => Some(Step::CloseLast),
-            5 => Some(Step::Finish),
-            6 => Some(Step::Create),
-            7 => Some(Step::Append),
-            8 => Some(Step::Write(value)),
-            9 => Some(Step::CloseOwn),
-            _ => None,
-        }
-    }
-}
-
-/// A step by a client, as a word of a plan: the step's number in the 4 most significant bits, the client in the 8 below,
+/// A step by a client, as a word of a plan: the number of its [`Kind`] in the 4 most significant bits, the client in the 8 below,
 /// and a value in 52, which counts only for a write.
 ///
 /// ```
 /// use cindrolf::{Error, Refusal, Step, StepWord};
 ///
-/// let write = StepWord::new(3, Step::Write(9))?;
+/// let write = StepWord::new(3, Step::write(9))?;
 /// assert_eq!(write, StepWord(0x8030_0000_0000_0009));
-/// assert_eq!((write.client(), write.step()), (3, Some(Step::Write(9))));
-/// assert_eq!(StepWord::new(3, Step::Write(1 << 52)), Err(Error::Refused(Refusal::ValueTooWide)));
+/// assert_eq!((write.client(), write.step()), (3, Some(Step::write(9))));
+/// assert_eq!(StepWord::new(3, Step::write(1 << 52)), Err(Error::Refused(Refusal::ValueTooWide)));
 /// // A run has refusal 25 for this one.
 /// assert_eq!(StepWord(0xA000_0000_0000_0000).step(), None);
 /// # Ok::<(), Error>(())
@@ -84,27 +24,26 @@ impl StepWord {
     /// The word of a step by a client. A client above 255 is refused as unknown, and a value of 2^52 or more as too wide:
     /// the word has no room for them.
     pub const fn new(client: u64, step: Step) -> Result<Self, Error> {
-        let value = match step {
-            Step::Write(value) => value,
-            _ => 0,
-        };
-        if client > 255 {
+        if client > CLIENT_NUMBER_LIMIT {
             return Err(Error::Refused(Refusal::UnknownClient));
         }
-        if value > VALUE_LIMIT {
+        if step.value() > VALUE_LIMIT {
             return Err(Error::Refused(Refusal::ValueTooWide));
         }
-        Ok(StepWord(step.number() << 60 | client << 52 | value))
+        Ok(StepWord(step.kind().number() << 60 | client << 52 | step.value()))
     }
 
     /// The step. A word whose number is 10 or above names none.
     pub const fn step(self) -> Option<Step> {
-        Step::from_number(self.0 >> 60, value_of(self.0))
+        match Kind::from_number(self.0 >> 60) {
+            Some(kind) => Some(Step::new(kind, value_of(self.0))),
+            None => None,
+        }
     }
 
     /// The client, 0 to 255.
     pub const fn client(self) -> u64 {
-        (self.0 >> 52) & 255
+        (self.0 >> 52) & CLIENT_NUMBER_LIMIT
     }
 
     /// A plan's words, to keep, to send or to lend to [`calls`](crate::calls).
@@ -112,7 +51,7 @@ impl StepWord {
     /// ```
     /// use cindrolf::{Error, Step, StepWord};
     ///
-    /// let plan = [StepWord::new(1, Step::Name)?, StepWord::new(1, Step::Become)?];
+    /// let plan = [StepWord::new(1, Step::NAME)?, StepWord::new(1, Step::BECOME)?];
     /// let words = StepWord::words(&plan);
     /// assert_eq!(words, [0x0010_0000_0000_0000, 0x1010_0000_0000_0000]);
     /// assert_eq!(StepWord::from_words(words), plan);
@@ -148,9 +87,8 @@ mod tests {
     // N B A F L K C P W O, from 0.
     #[test]
     fn words_of_steps() {
-        use Step::*;
-        let order = [Name, Become, Abdicate, Fetch, CloseLast, Finish, Create, Append, Write(0), CloseOwn];
-        for (number, step) in (0..).zip(order) {
+        for (number, kind) in (0..).zip(Kind::ALL) {
+            let step = Step::new(kind, 0);
             assert_eq!(StepWord::new(0, step), Ok(StepWord(number * 0x1000_0000_0000_0000)));
             let word = StepWord(number * 0x1000_0000_0000_0000 + 0x0FF0_0000_0000_0000);
             assert_eq!(StepWord::new(255, step), Ok(word));
@@ -159,19 +97,19 @@ mod tests {
         for number in 10..16 {
             assert_eq!(StepWord(number << 60).step(), None);
         }
-        let widest = StepWord::new(15, Write(0xF_FFFF_FFFF_FFFF));
+        let widest = StepWord::new(15, Step::write(0xF_FFFF_FFFF_FFFF));
         assert_eq!(widest, Ok(StepWord(0x80FF_FFFF_FFFF_FFFF)));
         // The value of another step plays no part.
-        assert_eq!(StepWord(0x301F_FFFF_FFFF_FFFF).step(), Some(Fetch));
+        assert_eq!(StepWord(0x301F_FFFF_FFFF_FFFF).step(), Some(Step::FETCH));
     }
 
     #[test]
     fn no_room() {
         for client in [256, 1 << 32, u64::MAX] {
-            assert_eq!(StepWord::new(client, Step::Write(u64::MAX)), Err(Error::Refused(Refusal::UnknownClient)));
+            assert_eq!(StepWord::new(client, Step::write(u64::MAX)), Err(Error::Refused(Refusal::UnknownClient)));
         }
         for value in [1 << 52, u64::MAX] {
-            assert_eq!(StepWord::new(255, Step::Write(value)), Err(Error::Refused(Refusal::ValueTooWide)));
+            assert_eq!(StepWord::new(255, Step::write(value)), Err(Error::Refused(Refusal::ValueTooWide)));
         }
     }
 }

@@ -97,6 +97,7 @@ operations! {
     cindrolf_append(client);
     cindrolf_write(client, value);
     cindrolf_close_own(client);
+    cindrolf_take(step, client, value);
 }
 
 // The steps under rights, which are lent to be read.
@@ -127,6 +128,7 @@ steps_with! {
     cindrolf_append_with(client);
     cindrolf_write_with(client, value);
     cindrolf_close_own_with(client);
+    cindrolf_take_with(step, client, value);
 }
 
 unsafe extern "C" {

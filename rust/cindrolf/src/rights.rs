@@ -1,48 +1,12 @@
 //! The rights of the clients, which are lent with a step.
 
-use crate::{CLIENT_LIMIT, Error, RIGHTS_WORDS, Refusal};
+use crate::{CLIENT_LIMIT, Error, Kind, RIGHTS_WORDS, Refusal};
 
-/// The right of a client to one kind of step.
-#[derive(Clone, Copy, Debug, PartialEq, Eq, Hash, PartialOrd, Ord)]
-pub enum Right {
-    /// To be named leader.
-    Name,
-    /// To start to lead.
-    Become,
-    /// To stop leading.
-    Abdicate,
-    /// To fetch the list and its last ledger.
-    Fetch,
-    /// To fence the last ledger.
-    CloseLast,
-    /// To close the ledger that is fenced.
-    Finish,
-    /// To create a ledger.
-    Create,
-    /// To append a ledger to the list.
-    Append,
-    /// To write, a value or scores.
-    Write,
-    /// To close its own ledger.
-    CloseOwn,
-}
+/// The right of a client to a kind of step: it is named by the kind.
+pub type Right = Kind;
 
-impl Right {
-    /// The ten rights, in the order of their bits.
-    pub const ALL: [Right; 10] = [
-        Right::Name,
-        Right::Become,
-        Right::Abdicate,
-        Right::Fetch,
-        Right::CloseLast,
-        Right::Finish,
-        Right::Create,
-        Right::Append,
-        Right::Write,
-        Right::CloseOwn,
-    ];
-
-    /// The right's bit in a client's word: the first is the most significant.
+impl Kind {
+    /// The bit of the right to it in a client's word: the first is the most significant.
     ///
     /// ```
     /// use cindrolf::Right;
@@ -50,7 +14,7 @@ impl Right {
     /// assert_eq!(Right::CloseOwn.bit(), 1 << 54);
     /// ```
     pub const fn bit(self) -> u64 {
-        1 << (63 - self as u32)
+        1 << (63 - self.number())
     }
 }
 
@@ -59,8 +23,8 @@ const TEN: u64 = 0xFFC0_0000_0000_0000;
 
 /// Who may take which step: a word for each client, which a step reads and never changes.
 ///
-/// A step under rights is refused where its client lacks the right to it. The log does not keep them: whoever calls it
-/// does, and lends them with each step.
+/// A step under rights is refused where its client lacks the right to it. The log does not keep them: the caller does,
+/// and lends them with each step.
 ///
 /// A guest instrument that leads may go on, and is not named again:
 ///
@@ -187,10 +151,8 @@ mod tests {
     // N B A F L K C P W O, from the most significant bit.
     #[test]
     fn bits() {
-        use Right::*;
-        let order = [Name, Become, Abdicate, Fetch, CloseLast, Finish, Create, Append, Write, CloseOwn];
-        assert_eq!(Right::ALL, order);
-        assert_eq!(order.map(|right| right.bit().trailing_zeros()), [63, 62, 61, 60, 59, 58, 57, 56, 55, 54]);
+        let bits = Right::ALL.map(|right| right.bit().trailing_zeros());
+        assert_eq!(bits, [63, 62, 61, 60, 59, 58, 57, 56, 55, 54]);
         assert_eq!(Right::ALL.iter().fold(0, |word, right| word | right.bit()), TEN);
     }
 

@@ -1,8 +1,8 @@
 //! The reference's examples through the crate, on the proved library.
 
 use cindrolf::{
-    Capacity, CloseLast, ENTRY_WORDS, EntryNumber, Error, Finish, Forecast, LedgerNumber, LedgerPlace, Log, LogMut,
-    LogRef, MarkName, Position, Progress,
+    Capacity, CloseLast, ENTRY_WORDS, EntryNumber, Error, Finish, Forecast, Kind, LedgerNumber, LedgerPlace, Log,
+    LogMut, LogRef, MarkName, Position, Progress,
 };
 use cindrolf::{
     MARK_WORDS, MARKS_LIMIT, RIGHTS_WORDS, Refusal, Right, Rights, SCORE_LIMIT, SCORES_LIMIT, STATE_WORDS, Stage, Step,
@@ -443,29 +443,28 @@ fn refused_rights() {
 
 /// A handover from client 0 to client 1, with steps that are refused.
 fn handover() -> Vec<StepWord> {
-    use Step::*;
     let steps = [
-        (0, Become),
-        (0, Fetch),
-        (0, Create),
-        (0, Append),
-        (0, Write(7)),
-        (0, Fetch), // refused: another stage
-        (1, Name),
-        (1, Become),
-        (1, Fetch),
-        (1, CloseLast),
-        (0, Write(8)), // refused: fenced
-        (1, Finish),
-        (0, Abdicate), // refused, where the right is missing
-        (1, Create),
-        (1, Append),
-        (16, Write(9)), // refused: unknown
-        (1, Write(9)),
+        (0, Step::BECOME),
+        (0, Step::FETCH),
+        (0, Step::CREATE),
+        (0, Step::APPEND),
+        (0, Step::write(7)),
+        (0, Step::FETCH), // refused: another stage
+        (1, Step::NAME),
+        (1, Step::BECOME),
+        (1, Step::FETCH),
+        (1, Step::CLOSE_LAST),
+        (0, Step::write(8)), // refused: fenced
+        (1, Step::FINISH),
+        (0, Step::ABDICATE), // refused, where the right is missing
+        (1, Step::CREATE),
+        (1, Step::APPEND),
+        (16, Step::write(9)), // refused: unknown
+        (1, Step::write(9)),
     ];
     let mut plan: Vec<_> = steps.map(|(client, step)| StepWord::new(client, step).unwrap()).into();
     plan.push(StepWord(10 << 60)); // refused: no step
-    plan.extend([StepWord::new(0, CloseOwn).unwrap()]); // behind
+    plan.extend([StepWord::new(0, Step::CLOSE_OWN).unwrap()]); // behind
     plan
 }
 
@@ -488,18 +487,18 @@ fn plans() {
         let mut permitted = singly.under(&rights);
         for word in &plan[..budget.min(19) as usize] {
             let client = word.client();
-            let _ = match word.step() {
-                Some(Step::Name) => permitted.name(client),
-                Some(Step::Become) => permitted.become_leader(client),
-                Some(Step::Abdicate) => permitted.abdicate(client),
-                Some(Step::Fetch) => permitted.fetch(client),
-                Some(Step::CloseLast) => permitted.close_last(client).map(drop),
-                Some(Step::Finish) => permitted.finish(client).map(drop),
-                Some(Step::Create) => permitted.create(client),
-                Some(Step::Append) => permitted.append(client).map(drop),
-                Some(Step::Write(value)) => permitted.write(client, value).map(drop),
-                Some(Step::CloseOwn) => permitted.close_own(client).map(drop),
-                None => Ok(()),
+            let Some(step) = word.step() else { continue };
+            let _ = match step.kind() {
+                Kind::Name => permitted.name(client),
+                Kind::Become => permitted.become_leader(client),
+                Kind::Abdicate => permitted.abdicate(client),
+                Kind::Fetch => permitted.fetch(client),
+                Kind::CloseLast => permitted.close_last(client).map(drop),
+                Kind::Finish => permitted.finish(client).map(drop),
+                Kind::Create => permitted.create(client),
+                Kind::Append => permitted.append(client).map(drop),
+                Kind::Write => permitted.write(client, step.value()).map(drop),
+                Kind::CloseOwn => permitted.close_own(client).map(drop),
             };
         }
         assert_eq!(log, singly, "{budget}");

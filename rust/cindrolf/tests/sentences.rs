@@ -1,10 +1,8 @@
 //! Every sentence, and the one table of reasons: what the crate prints, and what the header and the reference say of each refusal.
 
-use cindrolf::{Error, Refusal, Said, TEXT_BYTES, calls};
+use cindrolf::{Error, Kind, Refusal, Said, TEXT_BYTES, calls};
 use std::collections::HashSet;
 
-const STEPS: [&str; 10] =
-    ["name", "become", "abdicate", "fetch", "close last", "finish", "create", "append", "write", "close own"];
 const REFUSALS: u64 = 28;
 const HEADER: &str = include_str!("../../../include/cindrolf.h");
 const REFERENCE: &str = include_str!("../../../docs/REFERENCE.md");
@@ -27,15 +25,15 @@ fn reason(refusal: u64) -> String {
 #[test]
 fn all_sentences_have_the_form_and_differ() {
     let mut all = HashSet::new();
-    for (step, name) in (0..).zip(STEPS) {
+    for kind in Kind::ALL {
         for client in 0..256 {
             for refusal in 1..=REFUSALS {
-                let sentence = sentence(step, client, refusal);
-                let reason = sentence.strip_prefix(&format!("{name} of client {client}: ")).expect(&sentence);
+                let sentence = sentence(kind.number(), client, refusal);
+                let reason = sentence.strip_prefix(&format!("{kind} of client {client}: ")).expect(&sentence);
                 assert!((1..=64).contains(&reason.len()), "{sentence}");
                 assert!(reason.bytes().all(|byte| byte == b' ' || byte.is_ascii_lowercase()), "{sentence}");
                 assert!(reason.split(' ').all(|word| !word.is_empty()), "single spaces between words: {sentence}");
-                assert!(all.insert(sentence), "given twice: {name} {client} {refusal}");
+                assert!(all.insert(sentence), "given twice: {kind} {client} {refusal}");
             }
         }
     }
@@ -46,7 +44,7 @@ fn all_sentences_have_the_form_and_differ() {
 fn display_is_the_reason() {
     for &refusal in Refusal::ALL {
         assert_eq!(refusal.to_string(), reason(refusal.number()));
-        assert_eq!(refusal.sentence(9, 255).unwrap(), format!("close own of client 255: {refusal}"));
+        assert_eq!(refusal.sentence(Kind::CloseOwn, 255).unwrap(), format!("close own of client 255: {refusal}"));
     }
 }
 
@@ -96,11 +94,11 @@ fn refusals_change_no_byte() {
 
 #[test]
 fn sentences_are_read_back() {
-    for step in 0..10 {
+    for kind in Kind::ALL {
         for client in 0..256 {
             for &refusal in Refusal::ALL {
-                let sentence = sentence(step, client, refusal.number());
-                assert_eq!(calls::read_sentence(sentence.as_bytes()), Ok(Some(Said { step, client, refusal })));
+                let sentence = sentence(kind.number(), client, refusal.number());
+                assert_eq!(calls::read_sentence(sentence.as_bytes()), Ok(Some(Said { kind, client, refusal })));
             }
         }
     }

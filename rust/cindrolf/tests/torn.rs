@@ -23,12 +23,12 @@ fn torn(before: &Log, client: u64, step: Step, word: usize) -> Log {
     Log::from_words(&state, before.entries()).expect("well formed")
 }
 
-const LEADS: [(u64, Step); 4] = [(0, Step::Become), (0, Step::Fetch), (0, Step::Create), (0, Step::Append)];
+const LEADS: [(u64, Step); 4] = [(0, Step::BECOME), (0, Step::FETCH), (0, Step::CREATE), (0, Step::APPEND)];
 
 // The client believes that its ledger is listed: its writes are answered, and no reading has them.
 #[test]
 fn half_an_append_loses_every_write_after_it() {
-    let mut log = torn(&after(&LEADS[..3]), 0, Step::Append, 1);
+    let mut log = torn(&after(&LEADS[..3]), 0, Step::APPEND, 1);
     assert_eq!(log.write(0, 201).unwrap().number, EntryNumber(0));
     assert_eq!(log.write(0, 202).unwrap().number, EntryNumber(1));
     assert_eq!(log.read_chain(&mut [0; cindrolf::ENTRY_WORDS]), Ok(0));
@@ -37,8 +37,8 @@ fn half_an_append_loses_every_write_after_it() {
 // The new leader believes that the old ledger is fenced: the old leader goes on, and the new one never gets to write.
 #[test]
 fn half_a_close_last_leaves_no_fence() {
-    let taken_over = [&LEADS[..], &[(1, Step::Name), (1, Step::Become), (1, Step::Fetch)]].concat();
-    let mut log = torn(&after(&taken_over), 1, Step::CloseLast, 2);
+    let taken_over = [&LEADS[..], &[(1, Step::NAME), (1, Step::BECOME), (1, Step::FETCH)]].concat();
+    let mut log = torn(&after(&taken_over), 1, Step::CLOSE_LAST, 2);
     assert_eq!(log.write(0, 201).unwrap().number, EntryNumber(0));
     assert_eq!(log.finish(1), Err(Error::Refused(Refusal::ImpossibleMemory)));
     assert_eq!(log.write(0, 202).unwrap().number, EntryNumber(1));
@@ -47,7 +47,7 @@ fn half_a_close_last_leaves_no_fence() {
 // The client goes on to its next ledger, and the one before stays open in the midst of the list.
 #[test]
 fn half_a_close_own_leaves_two_open_ledgers() {
-    let mut log = torn(&after(&LEADS), 0, Step::CloseOwn, 1);
+    let mut log = torn(&after(&LEADS), 0, Step::CLOSE_OWN, 1);
     log.create(0).unwrap();
     let _ = log.append(0).unwrap();
     let open = log.view().list().filter(|&ledger| log.view().ledger(ledger).unwrap().open).count();

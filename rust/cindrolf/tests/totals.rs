@@ -10,14 +10,14 @@ const NOT_LISTED: Error = Error::Refused(Refusal::NotListed);
 /// Ledger 1 has two entries; ledger 2 was created and never appended; ledger 3 has one entry.
 fn handover() -> Log {
     let mut log = Log::fresh(2).unwrap();
-    let first = [Step::Become, Step::Fetch, Step::Create, Step::Append, Step::Write(999_999_999_999), Step::Write(1)];
+    let first = [Step::BECOME, Step::FETCH, Step::CREATE, Step::APPEND, Step::write(999_999_999_999), Step::write(1)];
     // Client 0 creates a ledger, and is replaced before it appends it.
-    let abandoned = [Step::CloseOwn, Step::Create];
+    let abandoned = [Step::CLOSE_OWN, Step::CREATE];
     for step in first.into_iter().chain(abandoned) {
         let _ = log.take(0, step).unwrap();
     }
-    let lead = [Step::Name, Step::Become, Step::Fetch, Step::CloseLast, Step::Create, Step::Append];
-    for step in lead.into_iter().chain([Step::Write(500_000_000)]) {
+    let lead = [Step::NAME, Step::BECOME, Step::FETCH, Step::CLOSE_LAST, Step::CREATE, Step::APPEND];
+    for step in lead.into_iter().chain([Step::write(500_000_000)]) {
         let _ = log.take(1, step).unwrap();
     }
     log

@@ -6,13 +6,12 @@ use crate::plans::{any_budget, any_plan};
 use crate::rights::any_rights;
 use crate::shrink;
 use crate::sides::Sides;
-use model::histories::{any_client, with_any_input};
+use model::histories::{any_client, any_value, with_any_input};
 use model::layout::{
     Client, ENTRY_WORDS, Entry, Head, Ledger, NONE, Place, SMALL_ENTRY_WORDS, STATE_WORDS, client_index,
 };
-use model::plans::parts;
 use model::random::Random;
-use model::{Step, words};
+use model::{Step, plans, words};
 
 /// Compares every operation on one log and its marks, each several times. The error is a report.
 pub fn compare(subject: Subject, sides: &mut Sides, random: &mut Random) -> Result<(), String> {
@@ -30,14 +29,7 @@ pub fn compare(subject: Subject, sides: &mut Sides, random: &mut Random) -> Resu
             buffers.output = any_output(random, length);
             sides.set(&buffers);
         }
-        if let Call::StepWith(client, step) = call {
-            buffers.rights = any_rights(random, head(&buffers).client_count, client, step);
-            sides.set_rights(&buffers.rights);
-        }
-        if let Call::Forecast(_) = call {
-            // As for the first step that the plan has. The run after it has the same rights.
-            let first = buffers.plan.iter().find_map(|&word| parts(word));
-            let (client, step) = first.unwrap_or((0, Step::Name));
+        if let Some((client, step)) = under_rights(call, &buffers.plan) {
             buffers.rights = any_rights(random, head(&buffers).client_count, client, step);
             sides.set_rights(&buffers.rights);
         }
@@ -50,6 +42,17 @@ pub fn compare(subject: Subject, sides: &mut Sides, random: &mut Random) -> Resu
     Ok(())
 }
 
+/// The client and the step that a call's rights are drawn for. Those of a forecast are for the first step that the plan has, and the run
+/// after it has the same.
+fn under_rights(call: Call, plan: &[u64]) -> Option<(u64, Step)> {
+    match call {
+        Call::StepWith(client, step) => Some((client, step)),
+        Call::TakeWith(number, client, value) => Some((client, plans::step(number, value).unwrap_or(Step::Name))),
+        Call::Forecast(_) => Some(plan.iter().find_map(|&word| plans::parts(word)).unwrap_or((0, Step::Name))),
+        _ => None,
+    }
+}
+
 /// The calls to try: each step by a client at any stage and by one at the step's own stage, under rights or without, then the others.
 fn calls(random: &mut Random, buffers: &Buffers) -> Vec<Call> {
     let head = head(buffers);
@@ -57,11 +60,7 @@ fn calls(random: &mut Random, buffers: &Buffers) -> Vec<Call> {
     for kind in Step::ALL {
         let step = with_any_input(random, kind);
         calls.push(any_call(random)(any_client(random, head.client_count), step));
-        let fits = |client: &u64| {
-            let word = buffers.state.get(client_index(*client)).copied().unwrap_or(0);
-            Client::load(word).0.stage == stage(kind)
-        };
-        let ready: Vec<u64> = (0..head.client_count.min(16)).filter(fits).collect();
+        let ready = ready(buffers, kind);
         if !ready.is_empty() {
             calls.push(any_call(random)(random.pick(&ready), step));
         }
@@ -79,7 +78,34 @@ fn calls(random: &mut Random, buffers: &Buffers) -> Vec<Call> {
     calls.extend(marks::calls(random, &buffers.marks));
     let budget = any_budget(random, buffers.plan.len());
     calls.extend([Call::Forecast(budget), Call::RunPlan(budget)]);
+    calls.extend((0..4).map(|_| any_take(random, buffers)));
     calls
+}
+
+/// The clients at a step's own stage.
+fn ready(buffers: &Buffers, kind: Step) -> Vec<u64> {
+    let fits = |client: &u64| {
+        let word = buffers.state.get(client_index(*client)).copied().unwrap_or(0);
+        Client::load(word).0.stage == stage(kind)
+    };
+    (0..head(buffers).client_count.min(16)).filter(fits).collect()
+}
+
+/// A step by its number: mostly a step's, often by a client at its stage, or one that is a step's in its last bits, or any.
+fn any_take(random: &mut Random, buffers: &Buffers) -> Call {
+    let number = match random.below(8) {
+        0 => random.pick(&[10, 15, 16, 255, 256, 1 << 32, u64::MAX]),
+        1 => random.below(10) + random.pick(&[1 << 4, 1 << 8, 1 << 32, 1 << 60]),
+        2 => random.word(),
+        _ => random.below(10),
+    };
+    let take = random.pick(&[Call::Take as fn(u64, u64, u64) -> Call, Call::TakeWith]);
+    let ready = plans::step(number, 0).map_or(vec![], |kind| ready(buffers, kind));
+    let client = match ready[..] {
+        [_, ..] if random.chance(50) => random.pick(&ready),
+        _ => any_client(random, head(buffers).client_count),
+    };
+    take(number, client, any_value(random))
 }
 
 /// A step without rights, or one under rights.

@@ -57,6 +57,10 @@ pub enum Call {
     Step(u64, Step),
     /// A step by a client, under the rights that are lent.
     StepWith(u64, Step),
+    /// A step by its number, with a client and a value, without rights.
+    Take(u64, u64, u64),
+    /// The same under the rights that are lent.
+    TakeWith(u64, u64, u64),
     /// A run of the plan under the rights that are lent, with its budget.
     RunPlan(u64),
     /// What such a run would add.
@@ -208,6 +212,12 @@ pub fn model(call: Call, lent: &mut Lent) -> Outcome {
         Call::Fresh(count) => Outcome::Answer(words::fresh(state, entries, count)),
         Call::Step(client, step) => Outcome::Answer(words::step(state, entries, client, step)),
         Call::StepWith(client, step) => Outcome::Answer(words::step_with(state, entries, rights, client, step)),
+        Call::Take(number, client, value) => {
+            model_take(number, value, |step| words::step(state, entries, client, step))
+        }
+        Call::TakeWith(number, client, value) => {
+            model_take(number, value, |step| words::step_with(state, entries, rights, client, step))
+        }
         Call::RunPlan(budget) => Outcome::Taken(plans::run(state, entries, rights, plan, budget)),
         Call::Forecast(budget) => Outcome::Forecast(plans::forecast(state, entries, rights, plan, budget)),
         Call::WellFormed => Outcome::WellFormed(words::well_formed(state, entries)),
@@ -228,6 +238,11 @@ pub fn model(call: Call, lent: &mut Lent) -> Outcome {
         Call::DropMark(name) => Outcome::Answer(marks::drop(state, entries, marks, name)),
         Call::ReadMark(name) => model_count(marks::read(state, entries, marks, name, output)),
     }
+}
+
+/// 25 before all else where the number is no step's.
+fn model_take(number: u64, value: u64, take: impl FnOnce(Step) -> Answer) -> Outcome {
+    Outcome::Answer(plans::step(number, value).map_or(Answer::Refused(25), take))
 }
 
 fn model_count(given: Result<usize, u64>) -> Outcome {
@@ -278,6 +293,8 @@ pub fn library(call: Call, lent: &mut Lent) -> Outcome {
         Call::Fresh(count) => accepted(calls::fresh(state, entries, count)),
         Call::Step(client, step) => Outcome::Answer(library_step(state, entries, client, step)),
         Call::StepWith(client, step) => Outcome::Answer(library_step_with(state, entries, rights, client, step)),
+        Call::Take(number, client, value) => library_take(state, entries, [number, client, value]),
+        Call::TakeWith(number, client, value) => library_take_with(state, entries, rights, [number, client, value]),
         Call::RunPlan(budget) => Outcome::Taken(calls::run_plan(state, entries, rights, plan, budget)),
         Call::Forecast(budget) => {
             let cindrolf::Forecast { entries, ledgers, refusals } =
@@ -303,17 +320,19 @@ fn accepted(given: Result<(), cindrolf::Error>) -> Outcome {
 }
 
 fn library_advice(state: &[u64], entries: &[u64], client: u64) -> Outcome {
-    use cindrolf::{Advice, calls};
-    let step = |advice| match advice {
-        Advice::Become => Step::Become,
-        Advice::Abdicate => Step::Abdicate,
-        Advice::Fetch => Step::Fetch,
-        Advice::CloseLast => Step::CloseLast,
-        Advice::Finish => Step::Finish,
-        Advice::Create => Step::Create,
-        Advice::Append => Step::Append,
-        Advice::Write => Step::Write(0),
-        Advice::CloseOwn => Step::CloseOwn,
+    use cindrolf::{Kind, calls};
+    let step = |kind| match kind {
+        // It is never advised, and the model has it so: it would show as a difference.
+        Kind::Name => Step::Name,
+        Kind::Become => Step::Become,
+        Kind::Abdicate => Step::Abdicate,
+        Kind::Fetch => Step::Fetch,
+        Kind::CloseLast => Step::CloseLast,
+        Kind::Finish => Step::Finish,
+        Kind::Create => Step::Create,
+        Kind::Append => Step::Append,
+        Kind::Write => Step::Write(0),
+        Kind::CloseOwn => Step::CloseOwn,
     };
     match calls::advise(state, entries, client) {
         Ok(advice) => Outcome::Advice(advice.map(step)),
@@ -439,6 +458,39 @@ fn numbered(number: u64) -> Answer {
         257..=284 => Answer::Refused(number - 256),
         _ => Answer::Refused(u64::MAX),
     }
+}
+
+/// A step's answer by its number.
+fn step_answer(number: u64) -> Answer {
+    match number {
+        1 => Answer::WasClosed,
+        2 => Answer::Behind,
+        0x1_0000_0000.. => Answer::Entry { number: (number - 0x1_0000_0000) >> 16, place: number & 0xFFFF },
+        number => numbered(number),
+    }
+}
+
+fn library_take(state: &mut [u64], entries: &mut [u64], [step, client, value]: [u64; 3]) -> Outcome {
+    let (words, room) = (state.len(), entries.len());
+    // SAFETY: both slices are valid for their lengths, and apart.
+    let given = unsafe {
+        cindrolf::raw::cindrolf_take(state.as_mut_ptr(), words, entries.as_mut_ptr(), room, step, client, value)
+    };
+    Outcome::Answer(step_answer(given))
+}
+
+fn library_take_with(
+    state: &mut [u64],
+    entries: &mut [u64],
+    rights: &[u64],
+    [step, client, value]: [u64; 3],
+) -> Outcome {
+    let (words, room, lent) = (state.len(), entries.len(), rights.len());
+    let (state, entries, rights) = (state.as_mut_ptr(), entries.as_mut_ptr(), rights.as_ptr());
+    // SAFETY: the three slices are valid for their lengths, and apart.
+    let given =
+        unsafe { cindrolf::raw::cindrolf_take_with(state, words, entries, room, rights, lent, step, client, value) };
+    Outcome::Answer(step_answer(given))
 }
 
 /// A step of the library, without rights.

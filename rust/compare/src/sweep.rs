@@ -20,6 +20,11 @@ pub fn undamaged(subject: Subject, sides: &mut Sides, log: &Named) -> Result<(),
     let runs = budgets.into_iter().flat_map(|budget| [Call::Forecast(budget), Call::RunPlan(budget)]);
     let without = (0..17).flat_map(|client| Step::ALL.map(|step| Call::Step(client, step)));
     let steps = without.chain((0..17).flat_map(|client| Step::ALL.map(|step| Call::StepWith(client, step))));
+    let numbers = || (0..11).chain([15, 16, 255, 256, 264, 1 << 32, (1 << 32) + 8, u64::MAX]);
+    let given = || (0..17).flat_map(move |client| [7, 1 << 52].map(|value| (client, value)));
+    let takes = numbers().flat_map(move |number| {
+        given().flat_map(move |(client, value)| [Call::Take, Call::TakeWith].map(|take| take(number, client, value)))
+    });
     let windows = [(0, 0), (1, 0), (1, u64::MAX), (256, 0), (256, 1 << 40), (257, 0), (u64::MAX, 0)];
     let windows = windows.map(|(length, limit)| Call::FirstWindow(length, limit));
     let advice = (0..17).map(Call::Advise);
@@ -34,7 +39,7 @@ pub fn undamaged(subject: Subject, sides: &mut Sides, log: &Named) -> Result<(),
         .chain([Call::Fresh(4)])
         .chain(ON_MARKS)
         .chain(runs);
-    for call in steps.chain(others) {
+    for call in steps.chain(takes).chain(others) {
         sides.set(&buffers);
         match sides.call(call) {
             Ok(Outcome::WellFormed(false)) => return Err(format!("the log '{}' is not well formed\n", log.name)),

@@ -6,8 +6,8 @@ use model::{Answer, Step};
 use std::fmt;
 
 /// The operations, in the reference's order, each with the answers that it can give: 1 to 25 are refusals. None gives 14. A step
-/// counts the same without rights and with them, and gives 24 only with them. A run gives no refusal, and so none gives 25.
-const OPERATIONS: [(&str, &[usize]); 25] = [
+/// counts the same without rights and with them, and gives 24 only with them. A run gives no refusal.
+const OPERATIONS: [(&str, &[usize]); 26] = [
     ("fresh", &[DONE, 1, 17]),
     ("name", &[DONE, 1, 2, 3, 4, 24]),
     ("become", &[DONE, 1, 2, 3, 5, 6, 24]),
@@ -20,6 +20,7 @@ const OPERATIONS: [(&str, &[usize]); 25] = [
     ("write", &[ENTRY, 1, 2, 3, 7, 8, 9, 11, 12, 13, 24]),
     ("write scores", &[ENTRY, 1, 2, 3, 7, 8, 9, 12, 13, 18, 19, 24]),
     ("close own", &[DONE, BEHIND, 1, 2, 3, 7, 8, 9, 24]),
+    ("by number", &[DONE, WAS_CLOSED, BEHIND, ENTRY, 1, 2, 3, 4, 5, 6, 7, 8, 9, 10, 11, 12, 13, 24, 25]),
     ("run plan", &[WHOLE, CUT]),
     ("forecast", &[ADDS, REFUSALS, NONE]),
     ("well formed", &[YES, NO]),
@@ -135,19 +136,20 @@ fn operation(call: Call) -> usize {
             Step::WriteScores(_) => 10,
             Step::CloseOwn => 11,
         },
-        Call::RunPlan(_) => 12,
-        Call::Forecast(_) => 13,
-        Call::WellFormed => 14,
-        Call::Advise(_) => 15,
-        Call::ReadLedger(_) => 16,
-        Call::ReadChain => 17,
-        Call::LedgerAt(_) => 18,
-        Call::LedgerSum(_) => 19,
-        Call::RunTotal => 20,
-        Call::FirstWindow(..) => 21,
-        Call::SetMark(_) => 22,
-        Call::DropMark(_) => 23,
-        Call::ReadMark(_) => 24,
+        Call::Take(..) | Call::TakeWith(..) => 12,
+        Call::RunPlan(_) => 13,
+        Call::Forecast(_) => 14,
+        Call::WellFormed => 15,
+        Call::Advise(_) => 16,
+        Call::ReadLedger(_) => 17,
+        Call::ReadChain => 18,
+        Call::LedgerAt(_) => 19,
+        Call::LedgerSum(_) => 20,
+        Call::RunTotal => 21,
+        Call::FirstWindow(..) => 22,
+        Call::SetMark(_) => 23,
+        Call::DropMark(_) => 24,
+        Call::ReadMark(_) => 25,
     }
 }
 

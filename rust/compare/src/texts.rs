@@ -41,8 +41,9 @@ pub fn library(text: &[u8]) -> Option<Numbers> {
     let raw::SentenceSaid { found, step, client, refusal } =
         unsafe { raw::cindrolf_read_sentence(text.as_ptr(), text.len()) };
     let said = Numbers { step, client, refusal };
-    let handed_on = calls::read_sentence(text)
-        .map(|said| said.map(|said| Numbers { step: said.step, client: said.client, refusal: said.refusal.number() }));
+    let handed_on = calls::read_sentence(text).map(|said| {
+        said.map(|said| Numbers { step: said.kind.number(), client: said.client, refusal: said.refusal.number() })
+    });
     let wrong = Some(Numbers { step: u64::MAX, client: u64::MAX, refusal: u64::MAX });
     match (found, handed_on) {
         (0, Ok(None)) if said == Numbers::default() => None,

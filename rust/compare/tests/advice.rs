@@ -1,6 +1,6 @@
 //! The adviser: what it says at every stage, and how soon a named leader that follows it writes.
 
-use cindrolf::{Advice, Error, Log, LogRef, Refusal};
+use cindrolf::{Error, Kind, Log, LogRef, Refusal};
 use model::Step;
 use model::histories::Profile;
 use model::layout::{Client, Entry, Head, Ledger, NONE, client_index, ledger_index};
@@ -23,7 +23,7 @@ fn both_at(stage: u64, fenced: u64) -> (Vec<u64>, Vec<u64>) {
 // Worked out by hand: the stage, the fence, what the named client is told, and what the other is told.
 #[test]
 fn every_stage_and_both_clients() {
-    use Advice::*;
+    use Kind::*;
     let rows = [
         (0, 0, Become, None),
         (1, 0, Fetch, Some(Abdicate)),
@@ -68,7 +68,7 @@ fn what_it_does_not_look_at() {
     let (mut state, mut entries) = both_at(3, 0);
     state[0] = Head { next_ledger: 256, ..Head::load(state[0]).0 }.word();
     state[ledger_index(1)..=ledger_index(255)].fill(Ledger { open: 1, version: 0, fenced: 1, recovering: 0 }.word());
-    assert_eq!(LogRef::new(&state, &entries).advise(1), Ok(Some(Advice::Create)));
+    assert_eq!(LogRef::new(&state, &entries).advise(1), Ok(Some(Kind::Create)));
     let mut log = Log::from_words(&state, &entries).unwrap();
     assert_eq!(log.create(1), Err(Error::Refused(Refusal::NoLedgerNumber)));
 
@@ -76,30 +76,21 @@ fn what_it_does_not_look_at() {
     state[0] = Head { entry_count: 4096, ..Head::load(state[0]).0 }.word();
     entries.fill(Entry { ledger: 1, client: 0, value: 7 }.word());
     let mut log = Log::from_words(&state, &entries).unwrap();
-    assert_eq!(log.advise(1), Ok(Some(Advice::Write)));
+    assert_eq!(log.advise(1), Ok(Some(Kind::Write)));
     assert_eq!(log.write(1, 7), Err(Error::Refused(Refusal::LogFull)));
 
     (state, entries) = both_at(5, 1);
     let memory = Client { leads: 1, stage: 5, list_version: 0, ledger: 0, open: 0, version: NONE, recovering: 0 };
     state[client_index(1)] = memory.word();
-    assert_eq!(LogRef::new(&state, &entries).advise(1), Ok(Some(Advice::Write)));
+    assert_eq!(LogRef::new(&state, &entries).advise(1), Ok(Some(Kind::Write)));
 }
 
 /// Takes the advised step. Whether it was a write, which must be accepted; no other step may be refused either.
 fn follow(log: &mut Log, client: u64) -> bool {
     let advice = log.advise(client).expect("the client is known").expect("the named client has a step");
-    match advice {
-        Advice::Become => log.become_leader(client).unwrap(),
-        Advice::Abdicate => panic!("a named client is told to abdicate"),
-        Advice::Fetch => log.fetch(client).unwrap(),
-        Advice::CloseLast => drop(log.close_last(client).unwrap()),
-        Advice::Finish => drop(log.finish(client).unwrap()),
-        Advice::Create => log.create(client).unwrap(),
-        Advice::Append => drop(log.append(client).unwrap()),
-        Advice::Write => drop(log.write(client, (1 << 52) - 1).unwrap()),
-        Advice::CloseOwn => drop(log.close_own(client).unwrap()),
-    }
-    advice == Advice::Write
+    assert!(!matches!(advice, Kind::Name | Kind::Abdicate), "a named client is told to {advice}");
+    let _ = log.take(client, cindrolf::Step::new(advice, (1 << 52) - 1)).unwrap();
+    advice == Kind::Write
 }
 
 /// The steps that the named leader takes by the advice, the first write included.

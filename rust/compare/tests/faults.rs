@@ -791,6 +791,55 @@ fn finds_an_overlooked_right() {
     assert!(report.contains("with bit 63 of rights word 9 changed"), "{report}");
 }
 
+// A step goes by the last four bits of its number, as in a step word.
+fn step_by_its_last_four_bits(call: Call, lent: &mut Lent) -> Outcome {
+    match call {
+        Call::Take(number, client, value) => call::model(Call::Take(number % 16, client, value), lent),
+        Call::TakeWith(number, client, value) => call::model(Call::TakeWith(number % 16, client, value), lent),
+        call => call::model(call, lent),
+    }
+}
+
+// A wrong length is told before a number that is no step's.
+fn length_before_the_number(call: Call, lent: &mut Lent) -> Outcome {
+    match (call, call::model(call, lent)) {
+        (Call::Take(..) | Call::TakeWith(..), Outcome::Answer(Answer::Refused(25))) if lent.state.len() != 527 => {
+            Outcome::Answer(Answer::Refused(1))
+        }
+        (_, outcome) => outcome,
+    }
+}
+
+// 5 is create and 6 is finish.
+fn numbers_exchanged(call: Call, lent: &mut Lent) -> Outcome {
+    match call {
+        Call::Take(number @ 5..=6, client, value) => call::model(Call::Take(11 - number, client, value), lent),
+        call => call::model(call, lent),
+    }
+}
+
+// A value is cut to its 52 bits, as in a step word.
+fn cuts_the_value(call: Call, lent: &mut Lent) -> Outcome {
+    match call {
+        Call::Take(number, client, value) => call::model(Call::Take(number, client, value % (1 << 52)), lent),
+        call => call::model(call, lent),
+    }
+}
+
+#[test]
+fn finds_wrong_steps_by_number() {
+    let report = first(buffers::compare, step_by_its_last_four_bits, 300).expect("the fault is found");
+    assert!(report.contains("the model Answer(Refused(25))"), "{report}");
+    let report = first(buffers::compare, length_before_the_number, 300).expect("the fault is found");
+    assert!(report.contains("gives Answer(Refused(1)), the model Answer(Refused(25))"), "{report}");
+    let report = first(buffers::compare, numbers_exchanged, 300).expect("the fault is found");
+    assert!(report.starts_with("Take(5, ") || report.starts_with("Take(6, "), "{report}");
+    // A wide value shows only where the client may write.
+    let on = |log| sweep::undamaged(cuts_the_value, &mut Sides::new(cuts_the_value), log).err();
+    let report = logs::all().iter().find_map(on).expect("the fault is found");
+    assert!(report.contains("the model Answer(Refused(11))"), "{report}");
+}
+
 #[test]
 fn finds_wrong_marks() {
     let report = first(histories::compare, leaves_a_gap, 100).expect("the fault is found");

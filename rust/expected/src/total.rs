@@ -1,7 +1,7 @@
 //! The run total of the reference: a line for each listed ledger, the exact total, and that rounded once.
 
+use crate::grammar::{Session, step};
 use crate::log::Log;
-use crate::session::{Session, step};
 use std::fmt::Write;
 
 /// A number of parts of 10^-12, with all its decimals.

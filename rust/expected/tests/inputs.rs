@@ -1,8 +1,9 @@
 //! The inputs as a whole: every answer that a session can meet is met, and what LedgerChaining keeps is kept throughout.
 
 use expected::files::{input, input_names, root};
+use expected::grammar::{Session, step};
 use expected::log::Log;
-use expected::session::{Session, answer, step, transcript};
+use expected::session::{answer, transcript};
 use expected::total::output;
 use model::source::{Source, Status};
 use std::collections::BTreeSet;

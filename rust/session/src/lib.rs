@@ -2,11 +2,9 @@
 //!
 //! The program itself is proved, and written in Rattle. This crate is for commands in Rust that take the same lines.
 
-use cindrolf::{Answer, Error, RunTotal, Step};
+use cindrolf::{Answer, CLIENT_LIMIT, CLIENT_NUMBER_LIMIT, Error, Kind, RunTotal, Step};
+use limits::INPUT_LIMIT;
 use std::fmt;
-
-/// The most bytes that a session has.
-pub const INPUT_LIMIT: usize = 16_384;
 
 /// Why a text is no session. Its text is all that the session program prints then.
 #[derive(Clone, Copy, Debug, PartialEq, Eq)]
@@ -56,7 +54,7 @@ impl<'a> Session<'a> {
             Some(bytes) => Line { bytes, ended: true },
             None => Line { bytes: line, ended: false },
         });
-        let first = lines.next().filter(|line| line.ended).and_then(|line| number(line.bytes, 16));
+        let first = lines.next().filter(|line| line.ended).and_then(|line| number(line.bytes, CLIENT_LIMIT));
         match first {
             None | Some(0) => Err(NoSession::BadStart),
             Some(client_count) => Ok(Session { client_count, lines: lines.collect() }),
@@ -75,27 +73,29 @@ impl Line<'_> {
 ///
 /// ```
 /// use cindrolf::Step;
-/// assert_eq!(session::step(b"W 3 201"), Some((3, Step::Write(201))));
+/// assert_eq!(session::step(b"W 3 201"), Some((3, Step::write(201))));
 /// assert_eq!(session::step(b"W 3"), None);
 /// ```
 pub fn step(line: &[u8]) -> Option<(u64, Step)> {
     let mut fields = line.split(|&byte| byte == b' ');
-    let letter = fields.next()?;
-    let client = number(fields.next()?, 255)?;
-    let step = match letter {
-        b"N" => Step::Name,
-        b"B" => Step::Become,
-        b"A" => Step::Abdicate,
-        b"F" => Step::Fetch,
-        b"L" => Step::CloseLast,
-        b"K" => Step::Finish,
-        b"C" => Step::Create,
-        b"P" => Step::Append,
-        b"W" => Step::Write(number(fields.next()?, u64::MAX)?),
-        b"O" => Step::CloseOwn,
-        _ => return None,
-    };
-    fields.next().is_none().then_some((client, step))
+    let &[letter] = fields.next()? else { return None };
+    let kind = Kind::from_letter(letter.into())?;
+    let client = number(fields.next()?, CLIENT_NUMBER_LIMIT)?;
+    let value = if kind == Kind::Write { number(fields.next()?, u64::MAX)? } else { 0 };
+    fields.next().is_none().then_some((client, Step::new(kind, value)))
+}
+
+/// The line of a step, without its end.
+///
+/// ```
+/// use cindrolf::Step;
+/// assert_eq!(session::line(3, Step::write(201)), "W 3 201");
+/// assert_eq!(session::line(0, Step::BECOME), "B 0");
+/// ```
+pub fn line(client: u64, step: Step) -> String {
+    let (kind, value) = (step.kind(), step.value());
+    let letter = kind.letter();
+    if kind == Kind::Write { format!("{letter} {client} {value}") } else { format!("{letter} {client}") }
 }
 
 /// A number in decimal digits without leading zeros, up to a limit.

@@ -1,6 +1,6 @@
 //! A single step of a request: a step of a client, or a change of marks or rights.
 
-use cindrolf::{MarkName, Step};
+use cindrolf::{Kind, MarkName, Step};
 
 /// A single step of a request.
 #[derive(Clone, Copy, Debug, PartialEq, Eq, Hash)]
@@ -21,7 +21,7 @@ impl Change {
     /// The number of its kind in a row.
     pub fn kind(self) -> u64 {
         match self {
-            Change::Step(_, step) => step.number(),
+            Change::Step(_, step) => step.kind().number(),
             Change::WriteScores(..) => 10,
             Change::SetMark(_) => 11,
             Change::DropMark(_) => 12,
@@ -41,7 +41,7 @@ impl Change {
     /// the low one first, a mark's name as it is.
     pub fn input(self) -> Vec<u8> {
         match self {
-            Change::Step(_, Step::Write(value)) => value.to_be_bytes().to_vec(),
+            Change::Step(_, step) if step.kind() == Kind::Write => step.value().to_be_bytes().to_vec(),
             Change::Step(..) => vec![],
             Change::WriteScores(_, scores) => scores.iter().flat_map(|score| score.to_le_bytes()).collect(),
             Change::SetMark(name) | Change::DropMark(name) => name.0.to_vec(),

@@ -4,7 +4,7 @@ use crate::change::Change;
 use crate::controller::{Controller, End};
 use crate::row::{Row, requests};
 use crate::truth::{Truth, refused};
-use cindrolf::Step;
+use cindrolf::Kind;
 use model::Answer;
 use std::hash::{DefaultHasher, Hash, Hasher};
 
@@ -278,7 +278,7 @@ impl Judge {
 fn written(change: Change, answer: Answer) -> Option<u64> {
     let Answer::Entry { .. } = answer else { return None };
     match change {
-        Change::Step(client, Step::Write(value)) => Some((client << 52) + value),
+        Change::Step(client, step) if step.kind() == Kind::Write => Some((client << 52) + step.value()),
         Change::WriteScores(client, scores) => Some((client << 52) + model::scores::sum(scores).ok()?),
         _ => None,
     }

@@ -73,7 +73,7 @@ mod tests {
     #[test]
     fn chain_values() {
         let hex = |bytes: &[u8]| bytes.iter().map(|byte| format!("{byte:02x}")).collect::<String>();
-        let (write, scores) = (Change::Step(0, Step::Write(201)), Change::WriteScores(1, &[40, 372]));
+        let (write, scores) = (Change::Step(0, Step::write(201)), Change::WriteScores(1, &[40, 372]));
         let first = "0000000100000000 0000000000000000 0000000000000008 0000000000000000 00000000000000c9";
         assert_eq!(hex(&encoded(1 << 32, 0, write)), first.replace(' ', ""));
         let second = "0000000100000000 0000000000000001 000000000000000a 0000000000000001 2800 7401";

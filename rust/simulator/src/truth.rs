@@ -66,8 +66,7 @@ impl Truth {
 }
 
 fn model_step(step: Step) -> model::Step {
-    let value = if let Step::Write(value) = step { value } else { 0 };
-    plans::step(step.number(), value).expect("a number below ten")
+    plans::step(step.kind().number(), step.value()).expect("a number below ten")
 }
 
 /// Whether an answer is a refusal.

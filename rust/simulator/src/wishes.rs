@@ -2,7 +2,7 @@
 
 use crate::change::Change;
 use crate::replica::Replica;
-use cindrolf::{Advice, MarkName, Step};
+use cindrolf::{Kind, MarkName, Step};
 use model::lists;
 use model::random::Random;
 
@@ -14,7 +14,7 @@ pub fn wish(random: &mut Random, replica: &Replica, client: u64, clients: u64, f
     let own = |step| vec![Change::Step(client, step)];
     match random.below(100) {
         0..55 => next(random, replica, client, first),
-        55..70 => own(Step::Name),
+        55..70 => own(Step::NAME),
         70..76 => lead(client),
         76..80 => vec![Change::SetMark(mark(random)), Change::DropMark(mark(random))],
         80..84 => vec![Change::SetMark(mark(random))],
@@ -24,37 +24,23 @@ pub fn wish(random: &mut Random, replica: &Replica, client: u64, clients: u64, f
     }
 }
 
-/// What the adviser says, and writes where it says to write.
+/// What the adviser says, and several writes where it says to write. A client that is told nothing is named.
 fn next(random: &mut Random, replica: &Replica, client: u64, first: u64) -> Vec<Change> {
-    let step = match replica.log().advise(client) {
-        Ok(Some(Advice::Become)) => Step::Become,
-        Ok(Some(Advice::Abdicate)) => Step::Abdicate,
-        Ok(Some(Advice::Fetch)) => Step::Fetch,
-        Ok(Some(Advice::CloseLast)) => Step::CloseLast,
-        Ok(Some(Advice::Finish)) => Step::Finish,
-        Ok(Some(Advice::Create)) => Step::Create,
-        Ok(Some(Advice::Append)) => Step::Append,
-        Ok(Some(Advice::CloseOwn)) => Step::CloseOwn,
-        Ok(Some(Advice::Write)) => {
-            let count = random.between(1, MOST_STEPS);
-            return (0..count).map(|at| Change::Step(client, Step::Write(first + at))).collect();
-        }
-        Ok(None) | Err(_) => Step::Name,
-    };
-    vec![Change::Step(client, step)]
+    let kind = replica.log().advise(client).ok().flatten().unwrap_or(Kind::Name);
+    let count = if kind == Kind::Write { random.between(1, MOST_STEPS) } else { 1 };
+    (0..count).map(|at| Change::Step(client, Step::new(kind, first + at))).collect()
 }
 
 /// All that a new leader does until it may write.
 fn lead(client: u64) -> Vec<Change> {
-    [Step::Name, Step::Become, Step::Fetch, Step::CloseLast, Step::Finish, Step::Create, Step::Append]
+    [Step::NAME, Step::BECOME, Step::FETCH, Step::CLOSE_LAST, Step::FINISH, Step::CREATE, Step::APPEND]
         .map(|step| Change::Step(client, step))
         .to_vec()
 }
 
 fn any(random: &mut Random, clients: u64, value: u64) -> Change {
     let client = random.below(clients + 1);
-    let step = Step::from_number(random.below(10), value).expect("a number below ten");
-    Change::Step(client, step)
+    Change::Step(client, Step::new(random.pick(&Kind::ALL), value))
 }
 
 fn mark(random: &mut Random) -> MarkName {

@@ -310,7 +310,7 @@ impl World {
 
     fn stranger_appends(&mut self) {
         let id = request_id(self.engine.draw(), 0);
-        let changes = vec![Change::Step(0, Step::Name)];
+        let changes = vec![Change::Step(0, Step::NAME)];
         let stranger = Request { id, changes, asking: usize::MAX };
         let appended = self.engine.append(Known::NOTHING, &stranger);
         debug_assert!(appended.is_ok());

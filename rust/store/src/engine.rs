@@ -1,40 +1,65 @@
-//! The SQLite that is linked, and whether a log can be kept by it.
+//! What a store asks of where its rows are kept.
 
-use crate::{Error, sqlite};
+use crate::check::WrongAnswer;
+use crate::replica::{Replica, Stamp};
+use crate::request::Asked;
+use crate::{Error, Known};
+use std::num::NonZeroU32;
 
-/// The oldest one whose functions the views call, as 3.38.0 is numbered.
-const OLDEST: i32 = 3_038_000;
-
-/// Refuses an SQLite that is too old, or that is made for a single thread.
-pub(crate) fn fit() -> Result<(), Error> {
-    // SAFETY: both have no conditions.
-    let (version, threads) = unsafe { (sqlite::sqlite3_libversion_number(), sqlite::sqlite3_threadsafe()) };
-    judge(version, threads)
+/// A request that is appended: one row for each of its steps.
+pub(crate) struct Request<'a> {
+    pub id: u64,
+    pub asked: &'a [Asked],
+    /// What is stored of each answer, if the rows come straight after those that are known.
+    pub stamps: &'a [Stamp],
 }
 
-fn judge(version: i32, threads: i32) -> Result<(), Error> {
-    if version < OLDEST {
-        let number = format!("{}.{}.{}", version / 1_000_000, version / 1_000 % 1_000, version % 1_000);
-        return Err(Error::Unfit(format!("SQLite {number} is linked: install 3.38 or a later one")));
-    }
-    if threads == 0 {
-        return Err(Error::Unfit("the SQLite that is linked was built for a single thread: install another".into()));
-    }
-    Ok(())
+/// Keeps the rows of a log, and adds to them at their end.
+pub(crate) trait Engine {
+    /// The copy of no row: the fresh log that the log began with.
+    fn beginning(&mut self) -> Result<Replica, Error>;
+
+    /// Has the copy follow the rows that it does not have, up to the request with this id, and gives what it found. It
+    /// fails where the rows that the copy is made of are not there.
+    fn follow(&mut self, replica: &mut Replica, until: Option<u64>) -> Result<Followed, Error>;
+
+    /// What an engine does before a request is tried: one that is at hand has the copy follow the rows, so that there are
+    /// few of them when it is held.
+    fn catch_up(&mut self, replica: &mut Replica) -> Result<Vec<WrongAnswer>, Error>;
+
+    /// Comes before an append. An engine that can has nobody else append until `append` or `release`, and the copy has
+    /// every row then.
+    fn hold(&mut self, replica: &mut Replica) -> Result<Followed, Error>;
+
+    /// Gives up what `hold` took.
+    fn release(&mut self) -> Result<(), Error>;
+
+    /// A number that no start was given before, if there is one. It is asked for while the engine is held.
+    fn start(&mut self, replica: &Replica) -> Result<Option<NonZeroU32>, Error>;
+
+    /// Appends a request in one transaction, or finds that it is there already.
+    fn append(&mut self, known: Known, request: &Request<'_>) -> Result<Appended, Error>;
 }
 
-#[cfg(test)]
-mod tests {
-    use super::*;
+/// What following came to.
+#[derive(Default)]
+pub(crate) struct Followed {
+    /// The stored answers that are wrong.
+    pub wrong: Vec<WrongAnswer>,
+    /// Whether it came to the request that it was to stop at. The copy has the rows before it.
+    pub stopped: bool,
+}
 
-    #[test]
-    fn versions() {
-        for (version, threads) in [(3_038_000, 1), (3_040_001, 2), (4_000_000, 1)] {
-            assert_eq!(judge(version, threads), Ok(()));
-        }
-        let old = "no log can be kept there: SQLite 3.37.2 is linked: install 3.38 or a later one";
-        assert_eq!(judge(3_037_002, 1).unwrap_err().to_string(), old);
-        assert!(matches!(judge(3_040_001, 0), Err(Error::Unfit(_))));
-        assert_eq!(fit(), Ok(()));
-    }
+/// What became of an append.
+pub(crate) enum Appended {
+    /// So many rows come before it, and it is on the disk.
+    Placed(i64),
+    /// Nothing was heard of it: it may be sent again.
+    Silence {
+        /// Whether anything of it was sent.
+        sent: bool,
+        why: String,
+    },
+    /// The engine has another history than the copy.
+    OtherHistory,
 }

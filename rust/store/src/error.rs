@@ -1,8 +1,7 @@
 //! Why a call on a store gave no answer, and whether its step may be stored all the same.
 
-use crate::database::Fault;
-use crate::sqlite;
 use cindrolf::Refusal;
+use sqlite::Fault;
 use std::fmt;
 
 /// Whether a step that gave no answer is in the file.
@@ -35,12 +34,44 @@ pub enum Error {
     NoLog(String),
     /// The file is a log that does not hold together. This is where.
     Damaged(String),
-    /// The journal has [`ROW_LIMIT`](crate::ROW_LIMIT), the most that it takes.
-    JournalFull,
+    /// The journal has as many rows of this client as it takes, or of marks and rights.
+    JournalFull(Option<u64>),
+    /// The file is of an earlier version, and is only read: [`Store::upgrade_to`](crate::Store::upgrade_to) makes a new file of
+    /// it.
+    OldFormat,
+    /// The file is of this version, and there is nothing to upgrade.
+    UpToDate,
+    /// A text for people is too long.
+    TooLong {
+        /// Which one.
+        what: &'static str,
+        /// The most bytes that it has.
+        limit: usize,
+    },
+    /// The step is stored, and its row could not be written to the witness file. This is why.
+    Witness(String),
+    /// The log has lost rows that the witness was told of, or is another one. This is where.
+    NotWitnessed(String),
     /// The store was opened in another process, and this one is forked from that. It has to open the file itself.
     Forked,
     /// The file was removed since it was opened, or another has its name. Open it with a store of its own.
     Replaced,
+    /// The address of a log on a server is none. This is why, and what to do.
+    Address(String),
+    /// The server cannot be reached, or does not answer. Nothing is stored.
+    Unreachable(String),
+    /// The server refuses what it was asked, and nothing is stored. This is what it says.
+    Forbidden(String),
+    /// It is not known whether the request of this id is stored, or will be.
+    Unknown {
+        /// The request's id, by which [`Store::settle`](crate::Store::settle) tells later what became of it.
+        request: u64,
+        /// What was heard last.
+        why: String,
+    },
+    /// The server's rows are not those that this store has read: they were lost, or the log was put back from a copy. The
+    /// store does nothing any more; open the log again.
+    OtherHistory,
     /// The store was opened to read only.
     ReadOnly,
     /// A file could not be read or written. This is why.
@@ -59,6 +90,7 @@ impl Error {
     pub fn stored(&self) -> Stored {
         match self {
             Error::Engine { stored, .. } => *stored,
+            Error::Witness(_) | Error::Unknown { .. } => Stored::Unknown,
             _ => Stored::No,
         }
     }
@@ -108,6 +140,12 @@ impl From<Fault> for Error {
     }
 }
 
+impl From<Refusal> for Error {
+    fn from(refusal: Refusal) -> Self {
+        Error::Refused(refusal)
+    }
+}
+
 impl From<cindrolf::Error> for Error {
     fn from(error: cindrolf::Error) -> Self {
         match error {
@@ -128,9 +166,28 @@ impl fmt::Display for Error {
             Error::Unfit(why) => write!(f, "no log can be kept there: {why}"),
             Error::NoLog(why) => write!(f, "it is no run log of this version: {why}"),
             Error::Damaged(why) => write!(f, "the log is damaged: {why}"),
-            Error::JournalFull => write!(f, "the log has {} steps, the most that one takes", crate::ROW_LIMIT),
+            Error::JournalFull(Some(client)) => {
+                write!(f, "client {client} has {} rows in the log, the most that it takes", crate::CLIENT_ROW_LIMIT)
+            }
+            Error::JournalFull(None) => {
+                write!(f, "the log has {} rows of marks and rights, the most that it takes", crate::OTHER_ROW_LIMIT)
+            }
+            Error::OldFormat => f.write_str(
+                "it was made by an earlier version, and can only be read: 'cindrolf upgrade OLD NEW' makes a new file of it",
+            ),
+            Error::UpToDate => f.write_str("it is of this version already: 'cindrolf copy' makes a copy of it"),
+            Error::TooLong { what, limit } => write!(f, "{what} has at most {limit} bytes"),
+            Error::Witness(why) => write!(f, "the step is stored, and the witness file cannot be written: {why}"),
+            Error::NotWitnessed(why) => write!(f, "the log is not the one that the witness was told of: {why}"),
             Error::Forked => f.write_str("the log was opened before this process was forked; open it here as well"),
             Error::Replaced => f.write_str("the file was removed or replaced since it was opened"),
+            Error::Address(why) => write!(f, "the address is none of a log: {why}"),
+            Error::Unreachable(why) => f.write_str(why),
+            Error::Forbidden(why) => f.write_str(why),
+            Error::Unknown { request, why } => {
+                write!(f, "it is not known whether request {request} is stored: {why}")
+            }
+            Error::OtherHistory => f.write_str("the server's rows are not those that were read: some were lost, or put back"),
             Error::ReadOnly => f.write_str("the log was opened to read only"),
             Error::File(why) => f.write_str(why),
             Error::Engine { stored, fault } => {
@@ -144,22 +201,6 @@ impl fmt::Display for Error {
     }
 }
 
-/// What it means here, where SQLite's own words would not tell, and its code.
-impl fmt::Display for Fault {
-    fn fmt(&self, f: &mut fmt::Formatter<'_>) -> fmt::Result {
-        let told = match self.primary() {
-            _ if self.code == sqlite::IOERR_VNODE => &self.message,
-            sqlite::BUSY => "another process held the log for longer than this one waits",
-            sqlite::FULL => "the disk is full",
-            sqlite::READONLY => "the file or its folder cannot be written",
-            sqlite::CANTOPEN => "the file, or one that SQLite keeps beside it, cannot be opened",
-            sqlite::IOERR => "the disk failed",
-            _ => &self.message,
-        };
-        write!(f, "{told} (SQLite's code {})", self.code)
-    }
-}
-
 impl std::error::Error for Error {
     fn source(&self) -> Option<&(dyn std::error::Error + 'static)> {
         match self {
@@ -170,8 +211,6 @@ impl std::error::Error for Error {
         }
     }
 }
-
-impl std::error::Error for Fault {}
 
 #[cfg(test)]
 mod tests {

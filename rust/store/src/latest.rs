@@ -1,6 +1,6 @@
 //! The log as it was when it was last looked at, to read.
 
-use crate::copy::LogCopy;
+use crate::replica::Replica;
 use crate::{Error, LastRow};
 use cindrolf::{
     Forecast, LedgerNumber, LedgerSum, ListPlace, LogRef, MarkName, Refusal, Rights, RunTotal, StepWord, View,
@@ -9,10 +9,10 @@ use cindrolf::{
 
 /// The log as it was when it was last looked at: its words, marks and rights.
 #[derive(Clone, Copy)]
-pub struct Latest<'a>(&'a LogCopy);
+pub struct Latest<'a>(&'a Replica);
 
 impl<'a> Latest<'a> {
-    pub(crate) fn new(copy: &'a LogCopy) -> Self {
+    pub(crate) fn new(copy: &'a Replica) -> Self {
         Latest(copy)
     }
 
@@ -26,19 +26,19 @@ impl<'a> Latest<'a> {
         Ok(self.log().view()?)
     }
 
-    /// How many rows the journal has: the steps that were accepted, and the changes of marks and rights.
+    /// How many rows the journal has: one for each step of each request, marks and rights among them.
     pub fn rows(self) -> i64 {
-        self.0.seq
+        self.0.known.rows
     }
 
     /// The last of them: what to keep, so that a lost tail is found by [`Store::has_row`](crate::Store::has_row).
     pub fn last_row(self) -> LastRow {
-        LastRow { number: self.0.seq, checksum: self.0.checksum }
+        LastRow::of(self.0.known)
     }
 
     /// The chain reading: each entry with its client and its value, without its ledger.
     pub fn chain(self) -> Result<Vec<u64>, Error> {
-        let mut output = vec![0; self.0.entries.len()];
+        let mut output = vec![0; self.log().entries().len()];
         let count = self.log().read_chain(&mut output)?;
         output.truncate(count);
         Ok(output)
@@ -81,7 +81,7 @@ impl<'a> Latest<'a> {
 
     /// The chain reading as it was when the mark of this name was set.
     pub fn read_mark(self, name: MarkName) -> Result<Vec<u64>, Error> {
-        let mut output = vec![0; self.0.entries.len()];
+        let mut output = vec![0; self.log().entries().len()];
         let count = self.log().read_mark(self.marks(), name, &mut output)?;
         output.truncate(count);
         Ok(output)

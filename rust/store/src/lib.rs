@@ -1,13 +1,14 @@
-//! A run log in a file of SQLite, which up to sixteen controller processes share and any of them may die in.
+//! A run log that up to sixteen controller processes share, and that any of them may die in.
 //!
-//! The proved library answers what one call does to a log's words. A [`Store`] keeps these words in a file: each step that
-//! is accepted is one row of a journal, stored in one transaction that begins with the write lock. It is answered only
-//! when the row is on the disk. So whoever is killed, at whatever moment, leaves a log in which every write that was
-//! answered is stored, exactly once, and no step is half taken.
+//! The proved library answers what one call does to a log's words. A [`Store`] keeps the calls: a log is a list of
+//! requests, one row for each of their steps, and its words are what the library makes of them from a fresh log on. So to
+//! open a log is to check it. A request is stored in one transaction, and answered only when it is on the disk. A process
+//! that is killed at any moment leaves a log in which every write that was answered is stored, exactly once, and no step
+//! is half taken.
 //!
 //! ```
 //! use cindrolf::{Capacity, EntryNumber, Progress, Refusal};
-//! use store::{Error, Store};
+//! use cindrolf_store::{Error, Store};
 //!
 //! # let folder = std::env::temp_dir().join(format!("cindrolf-doc-{}", std::process::id()));
 //! # std::fs::create_dir_all(&folder).unwrap();
@@ -31,53 +32,55 @@
 //! assert_eq!(host.write(0, 202), Err(Error::Refused(Refusal::LedgerFenced)));
 //! assert_eq!(guest.write(1, 203)?.number, EntryNumber(1));
 //! assert_eq!(host.latest()?.total()?.to_string(), "0.000000000404");
-//! assert_eq!(host.check()?, 13);
+//! assert_eq!(host.check()?.rows, 13);
 //!
-//! // Who keeps the last row can see later that the log has not lost it, nor any row before it.
+//! // A caller that keeps the last row can see later that the log has not lost it, nor any row before it.
 //! let kept = host.last_row().expect("the row of what was answered last").to_string();
 //! guest.has_row(kept.parse().expect("what was printed"))?;
 //! # std::fs::remove_dir_all(&folder).unwrap();
 //! # Ok::<(), Error>(())
 //! ```
 //!
-//! Rights and marks are kept in the same file. Each step is taken under the rights, which are all ten for each client
-//! until they are changed.
+//! [`Store::take_all`] takes many steps as one request, with one wait for the disk. [`Store::changed`] waits for the steps
+//! of others. [`Store::keep_witness`] has a small file tell, at the next start, whether the log has lost anything.
+//!
+//! Rights and marks are requests too. Each step is taken under the rights, which are all ten for each client until they
+//! are changed.
 //!
 //! The file is SQLite's: its views `entries`, `chain`, `ledgers`, `clients`, `steps`, `marks`, `rights` and `total` are for
 //! any tool that reads one.
 
-mod backup;
-mod cause;
+mod address;
 mod check;
-mod checkpoint;
-mod copy;
-#[doc(hidden)]
-pub mod database;
+mod driver;
 mod engine;
 mod error;
 mod file;
-mod file_name;
-mod holder;
 mod journal;
+mod kept;
 mod latest;
-mod place;
+mod replica;
+mod request;
 mod row;
-mod schema;
-mod sqlite;
+mod server;
+mod steps;
 mod store;
-mod system;
-mod wait;
+mod witness;
 
-pub use database::Fault;
+pub use check::{Checked, WrongAnswer};
 pub use error::{Error, Stored};
-pub use holder::{LockHolder, lock_holder};
+pub use file::holder::{LockHolder, lock_holder};
+pub use file::processes::Stepper;
+pub use file::schema::APPLICATION_ID;
+pub use journal::JournalRow;
 pub use latest::Latest;
+#[doc(inline)]
+pub use limits::{CLIENT_ROW_LIMIT, NOTE_LIMIT, OTHER_ROW_LIMIT, PROCESS_LIMIT, ROW_LIMIT};
+pub(crate) use request::Known;
+pub use request::{Asked, Change, Told};
 pub use row::{LastRow, NoLastRow};
-pub use schema::APPLICATION_ID;
+pub use server::schema::{VERSION as SCHEMA_VERSION, schema};
+#[doc(hidden)]
+pub use sqlite as database;
+pub use sqlite::{Fault, end_waiting};
 pub use store::{PATIENCE, Store};
-pub use wait::end_waiting;
-
-/// The most rows that a journal takes. A log that is filled with reads has some six thousand. Only steps that are taken
-/// over and over, such as naming one leader and then another, come near: a controller that does so without end is to be
-/// stopped before the file fills the disk, and before it takes long to open.
-pub const ROW_LIMIT: i64 = 1_000_000;

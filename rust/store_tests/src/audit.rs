@@ -1,12 +1,13 @@
 //! Holds the logs that killed processes left against what these had noted.
 
+use crate::journal::{self, Row};
 use crate::notes::{Collected, sum};
+use crate::place::{Place, capacity_of};
 use crate::refusals;
 use crate::shared::{Shared, WordStore};
-use crate::worker::{Mode, capacity_of, log_count, log_file};
+use crate::worker::Mode;
 use cindrolf::{LedgerNumber, LogRef, client_of, value_of};
 use std::collections::BTreeSet;
-use std::path::Path;
 use store::Store;
 
 /// What an audit counted.
@@ -28,18 +29,24 @@ pub struct Counts {
     pub refusals: u64,
 }
 
+/// Reads the rows of a log past the store.
+pub type ReadRows<'a> = &'a dyn Fn(u64) -> Result<Vec<Row>, String>;
+
 struct Audit<'a> {
+    place: &'a Place,
+    clients: u64,
+    rows: ReadRows<'a>,
     notes: &'a Collected,
     counts: Counts,
     found: BTreeSet<u64>,
 }
 
-/// Looks through all logs of a folder. What does not hold is the error.
-pub fn audit(folder: &Path, clients: u64, mode: Mode) -> Result<Counts, String> {
-    let notes = Collected::read(folder, clients).map_err(|error| error.to_string())?;
-    let mut audit = Audit { notes: &notes, counts: Counts::default(), found: BTreeSet::new() };
-    for log in 0..log_count(folder) {
-        audit.log(folder, log, clients, mode).map_err(|why| format!("log {log}: {why}"))?;
+/// Looks through all logs of a run. What does not hold is the error.
+pub fn audit(place: &Place, clients: u64, mode: Mode, rows: ReadRows<'_>) -> Result<Counts, String> {
+    let notes = &Collected::read(place.folder(), clients).map_err(|error| error.to_string())?;
+    let mut audit = Audit { place, clients, rows, notes, counts: Counts::default(), found: BTreeSet::new() };
+    for log in 0..place.log_count() {
+        audit.log(log, mode).map_err(|why| format!("log {log}: {why}"))?;
     }
     if let Some(lost) = notes.stored.keys().find(|value| !audit.found.contains(value)) {
         return Err(format!("the write of {lost} was acknowledged, and is in no log"));
@@ -47,23 +54,39 @@ pub fn audit(folder: &Path, clients: u64, mode: Mode) -> Result<Counts, String> 
     Ok(audit.counts)
 }
 
+/// How many writes were acknowledged that are in no log of a run: what an audit fails for, if it fails for the right reason.
+pub fn lost(place: &Place, clients: u64) -> Result<usize, String> {
+    let notes = Collected::read(place.folder(), clients).map_err(|error| error.to_string())?;
+    let mut found = BTreeSet::new();
+    for log in 0..place.log_count() {
+        // A log that is gone holds nothing.
+        if let Ok(mut store) = Store::open(place.log(log)) {
+            let chain = store.latest().and_then(|latest| latest.chain()).map_err(|error| error.to_string())?;
+            found.extend(chain.into_iter().map(value_of));
+        }
+    }
+    Ok(notes.stored.keys().filter(|value| !found.contains(value)).count())
+}
+
 impl Audit<'_> {
-    fn log(&mut self, folder: &Path, log: u64, clients: u64, mode: Mode) -> Result<(), String> {
-        let file = log_file(folder, log);
+    fn log(&mut self, log: u64, mode: Mode) -> Result<(), String> {
+        let (path, clients) = (self.place.log(log), self.clients);
         self.counts.logs += 1;
         if mode == Mode::CommitsWords {
-            let mut words = WordStore::open(&file, clients, capacity_of(log)).map_err(|error| error.to_string())?;
+            let mut words = WordStore::open(&path, clients, capacity_of(log)).map_err(|error| error.to_string())?;
             return self.entries(log, words.log().map_err(|error| error.to_string())?);
         }
-        let mut store = match Store::open(&file) {
+        let mut store = match Store::open(&path) {
             // Nobody got further than to begin it.
             Err(store::Error::Unfinished) => return Ok(()),
             store => store.map_err(|error| error.to_string())?,
         };
-        self.counts.steps += store.check().map_err(|error| error.to_string())?;
+        self.counts.steps += store.check().map_err(|error| error.to_string())?.rows;
         let refused: Vec<_> = self.notes.refused.iter().filter(|refused| refused.log == log).copied().collect();
         self.counts.refusals |= refused.iter().fold(0, |bits, refused| bits | 1 << refused.refusal);
-        self.counts.refused += refusals::compare(&file, clients, capacity_of(log).words(), &refused)?;
+        let rows = (self.rows)(log)?;
+        journal::ids(&rows)?;
+        self.counts.refused += refusals::compare(&rows, clients, capacity_of(log).words(), &refused)?;
         self.entries(log, store.latest().map_err(|error| error.to_string())?.log())
     }
 

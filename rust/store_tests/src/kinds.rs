@@ -26,16 +26,15 @@ pub fn prepared(path: &Path, before: &[(u64, Step)]) -> Store {
 /// The kinds of change: the ten steps, a write of scores, a plan, a mark that is set and a right that is taken away. A
 /// mark that is dropped and a right that is given are rows of the same form.
 pub fn changes() -> Vec<Change> {
-    use Step::*;
-    let leads: &[_] = &[(0, Become), (0, Fetch), (0, Create), (0, Append)];
-    let written = &[leads, &[(0, Write(7))]].concat();
-    let fetched = &[&written[..], &[(1, Name), (1, Become), (1, Fetch)]].concat();
-    let fenced = &[&fetched[..], &[(1, CloseLast)]].concat();
+    let leads: &[_] = &[(0, Step::BECOME), (0, Step::FETCH), (0, Step::CREATE), (0, Step::APPEND)];
+    let written = &[leads, &[(0, Step::write(7))]].concat();
+    let fetched = &[&written[..], &[(1, Step::NAME), (1, Step::BECOME), (1, Step::FETCH)]].concat();
+    let fenced = &[&fetched[..], &[(1, Step::CLOSE_LAST)]].concat();
     let change = |name, before: &[_], make| Change { name, before: before.to_vec(), make };
     vec![
         change("name", &[], |store| store.name(1)),
         change("become", &[], |store| store.become_leader(0)),
-        change("abdicate", &[(0, Become), (1, Name)], |store| store.abdicate(0)),
+        change("abdicate", &[(0, Step::BECOME), (1, Step::NAME)], |store| store.abdicate(0)),
         change("fetch", &leads[..1], |store| store.fetch(0)),
         change("close last", fetched, |store| store.close_last(1).map(drop)),
         change("finish", fenced, |store| store.finish(1).map(drop)),
@@ -47,7 +46,7 @@ pub fn changes() -> Vec<Change> {
         change("set mark", written, |store| store.set_mark("wash".parse()?)),
         change("revoke", written, |store| store.revoke(1, Right::Name)),
         change("plan", leads, |store| {
-            let word = |value| StepWord::new(0, Write(value)).expect("a client and a value");
+            let word = |value| StepWord::new(0, Step::write(value)).expect("a client and a value");
             store.run_plan(&[word(1), word(2), word(3)], 3).map(drop)
         }),
     ]

@@ -26,6 +26,13 @@ pub enum Note {
         /// The entry number and the place in its ledger.
         at: Option<(u64, u64)>,
     },
+    /// The write failed, and the process was told that it is not stored.
+    NotStored {
+        /// The log.
+        log: u64,
+        /// The value.
+        value: u64,
+    },
     /// A step was refused.
     Refused(Refused),
     /// It closed this ledger, which then held so many entries with this sum over their words.
@@ -90,6 +97,7 @@ impl Notes {
                 format!("stored {log} {value} {entry} {place};\n")
             }
             Note::Stored { log, value, at: None } => format!("stored {log} {value};\n"),
+            Note::NotStored { log, value } => format!("failed {log} {value};\n"),
             Note::Refused(Refused { log, client, step, value, refusal, known, row }) => {
                 format!("refused {log} {client} {step} {value} {refusal} {known} {row};\n")
             }
@@ -133,6 +141,7 @@ fn parse(line: &str) -> Option<Note> {
         ("asked", &[log, value]) => Some(Note::Asked { log, value }),
         ("stored", &[log, value, entry, place]) => Some(Note::Stored { log, value, at: Some((entry, place)) }),
         ("stored", &[log, value]) => Some(Note::Stored { log, value, at: None }),
+        ("failed", &[log, value]) => Some(Note::NotStored { log, value }),
         ("refused", &[log, client, step, value, refusal, known, row]) => {
             let [known, row] = [known, row].map(|row| row as i64);
             Some(Note::Refused(Refused { log, client, step, value, refusal, known, row }))
@@ -169,6 +178,7 @@ impl Collected {
                         all.stored.insert(value, (log, at));
                         open = None;
                     }
+                    Note::NotStored { .. } => open = None,
                     Note::Refused(refused) => {
                         all.refused.push(refused);
                         open = None;

@@ -1,11 +1,9 @@
 //! Holds every refusal against the model, at the row of which it was decided.
 
+use crate::journal::Row;
 use crate::notes::Refused;
 use model::plans::step;
 use model::{Answer, words};
-use std::path::Path;
-use store::PATIENCE;
-use store::database::{Database, Mode, Row, Value};
 
 /// The log as the model has it after a row.
 struct Model {
@@ -14,9 +12,9 @@ struct Model {
     row: i64,
 }
 
-/// Takes the steps of a log's journal by the model, which has to answer the same, and each refused one where it was
-/// refused. Says how many refusals there were.
-pub fn compare(file: &Path, clients: u64, entry_words: usize, refused: &[Refused]) -> Result<u64, String> {
+/// Takes the steps of a log's rows by the model, which has to answer the same where an answer is stored, and each refused
+/// one where it was refused. Says how many refusals there were.
+pub fn compare(rows: &[Row], clients: u64, entry_words: usize, refused: &[Refused]) -> Result<u64, String> {
     let mut refused = refused.to_vec();
     refused.sort_by_key(|refused| refused.row);
     if let Some(stale) = refused.iter().find(|refused| refused.row < refused.known) {
@@ -26,44 +24,27 @@ pub fn compare(file: &Path, clients: u64, entry_words: usize, refused: &[Refused
     let mut model = Model { state: vec![0; 527], entries: vec![0; entry_words], row: 0 };
     words::fresh(&mut model.state, &mut model.entries, clients);
     model.refuses(&mut left)?;
-    let database = Database::open(file, Mode::Existing, PATIENCE).map_err(|fault| fault.to_string())?;
-    let rows = database.prepare("SELECT seq, kind, client, input, answer FROM journal ORDER BY seq");
-    let read = rows.map_err(|fault| fault.to_string())?.each(&[], |row| {
-        model.follow(row).map_err(Other)?;
-        model.refuses(&mut left).map_err(Other)
-    });
-    read.map_err(|Other(why)| why)?;
+    for row in rows {
+        model.follow(row)?;
+        model.refuses(&mut left)?;
+    }
     match left.first() {
         Some(refused) => Err(format!("the log has {} rows, and {refused:?}", model.row)),
         None => Ok(refused.len() as u64),
     }
 }
 
-/// What is wrong, as an error of reading rows.
-struct Other(String);
-
-impl From<store::Fault> for Other {
-    fn from(fault: store::Fault) -> Self {
-        Other(fault.to_string())
-    }
-}
-
 impl Model {
     /// Takes the step of a row.
-    fn follow(&mut self, row: Row<'_>) -> Result<(), String> {
-        let number = |column| match row.value(column) {
-            Value::Integer(number) => Some(number as u64),
-            _ => None,
-        };
+    fn follow(&mut self, row: &Row) -> Result<(), String> {
         self.row += 1;
         let no_row = || format!("row {} is none", self.row);
-        let step = number(1).and_then(|kind| step(kind, number(3).unwrap_or(0)));
-        let (client, step) = number(2).zip(step).ok_or_else(no_row)?;
+        let (client, step) = row.client.zip(step(row.kind, row.value)).ok_or_else(no_row)?;
         let given = words::step(&mut self.state, &mut self.entries, client, step);
-        if (number(0), number(4)) == (Some(self.row as u64), answer_number(given)) {
+        if row.seq == self.row && row.answer.is_none_or(|answer| answer == answer_number(given)) {
             return Ok(());
         }
-        Err(format!("row {} has the answer {:?}, and the model gives {given:?}", self.row, number(4)))
+        Err(format!("row {} has the answer {:?}, and the model gives {given:?}", self.row, row.answer))
     }
 
     /// Has the model take what was refused at this row, and drops it from what is left.
@@ -81,20 +62,21 @@ impl Model {
     }
 }
 
-/// An answer by its number, as the reference has it; none for a refusal.
-fn answer_number(answer: Answer) -> Option<u64> {
+/// An answer by its number, as the reference has it.
+fn answer_number(answer: Answer) -> u64 {
     match answer {
-        Answer::Done => Some(0),
-        Answer::WasClosed => Some(1),
-        Answer::Behind => Some(2),
-        Answer::Entry { number, place } => Some(1 << 32 | number << 16 | place),
-        Answer::Refused(_) => None,
+        Answer::Done => 0,
+        Answer::WasClosed => 1,
+        Answer::Behind => 2,
+        Answer::Entry { number, place } => 1 << 32 | number << 16 | place,
+        Answer::Refused(refusal) => 256 + refusal,
     }
 }
 
 #[cfg(test)]
 mod tests {
     use super::*;
+    use crate::journal;
     use crate::kinds::{changes, prepared};
     use crate::scratch::Scratch;
 
@@ -104,9 +86,10 @@ mod tests {
         let room = Scratch::in_memory();
         let file = room.file("run.db");
         drop(prepared(&file, &changes()[8].before));
+        let rows = journal::of_file(&file).expect("a log");
         let right = |client, refusal, known, row| {
             let refused = Refused { log: 0, client, step: 8, value: 7, refusal, known, row };
-            compare(&file, 2, 4096, &[refused]).is_ok()
+            compare(&rows, 2, 4096, &[refused]).is_ok()
         };
         assert!(right(1, 7, 4, 4) && right(1, 7, 0, 0) && right(0, 8, 2, 3) && right(2, 3, 4, 4));
         // Another number; accepted; older than what was known; and of a row that is not there.

@@ -1,4 +1,4 @@
-//! A log in a file, as a process of the tests uses it: the store, and two that are wrong.
+//! A log in a file or on a server, as a process of the tests uses it: the store, and two in files that are wrong.
 
 use cindrolf::{Answer, Capacity, LogRef, PermittedLog, Rights, Step};
 use std::fs::File;

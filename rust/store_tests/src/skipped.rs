@@ -4,5 +4,6 @@ use std::io::Write;
 
 /// Says that this test was skipped, and why.
 pub fn skipped(test: &str, why: &str) {
-    let _ = writeln!(std::io::stderr(), "SKIPPED: {test}: {}", why.trim_end());
+    // In one piece, so that what the test runner says does not come in between.
+    let _ = std::io::stderr().write_all(format!("SKIPPED: {test}: {}\n", why.trim_end()).as_bytes());
 }

@@ -3,12 +3,13 @@
 use crate::answered::Answered;
 use crate::calls;
 use crate::notes::{self, Note, Notes, Refused, sum};
+use crate::place::{Place, capacity_of};
 use crate::shared::{RememberingStore, Shared, WordStore, open_store};
-use cindrolf::{Answer, Capacity, LedgerNumber, Refusal, Stage, Step, VALUE_LIMIT};
+use crate::waits::Waits;
+use cindrolf::{Answer, Kind, LedgerNumber, Refusal, Stage, Step, VALUE_LIMIT};
 use model::random::Random;
-use std::path::{Path, PathBuf};
 use std::time::Duration;
-use store::Error;
+use store::{Error, Stored};
 
 /// How a process stores and notes.
 #[derive(Clone, Copy, Debug, PartialEq, Eq)]
@@ -46,39 +47,31 @@ impl Mode {
     }
 }
 
-/// The file of a log.
-pub fn log_file(folder: &Path, log: u64) -> PathBuf {
-    folder.join(format!("log-{log:04}.db"))
-}
-
-/// The capacity of a log: every other one is small.
-pub fn capacity_of(log: u64) -> Capacity {
-    if log.is_multiple_of(2) { Capacity::Large } else { Capacity::Small }
-}
-
-/// How many logs there are.
-pub fn log_count(folder: &Path) -> u64 {
-    (0..).find(|&log| !log_file(folder, log).exists()).expect("not all numbers are taken")
-}
-
 /// The log as a process uses it in a mode.
-pub fn open(folder: &Path, log: u64, mode: Mode, clients: u64) -> Result<Box<dyn Shared>, Error> {
-    let (file, capacity) = (log_file(folder, log), capacity_of(log));
-    Ok(match mode {
-        Mode::CommitsWords => Box::new(WordStore::open(&file, clients, capacity)?),
-        Mode::RefusesFromMemory => Box::new(RememberingStore::over(open_store(&file, clients, capacity)?)?),
-        _ => Box::new(open_store(&file, clients, capacity)?),
-    })
+pub fn open(place: &Place, log: u64, mode: Mode, clients: u64) -> Result<Box<dyn Shared>, Error> {
+    let (path, capacity) = (place.log(log), capacity_of(log));
+    let shared: Box<dyn Shared> = match mode {
+        Mode::CommitsWords => Box::new(WordStore::open(&path, clients, capacity)?),
+        Mode::RefusesFromMemory => Box::new(RememberingStore::over(open_store(&path, clients, capacity)?)?),
+        _ => Box::new(open_store(&path, clients, capacity)?),
+    };
+    place.opened(log).map_err(file)?;
+    Ok(shared)
+}
+
+fn file(error: std::io::Error) -> Error {
+    Error::File(error.to_string())
 }
 
 /// A process, which is also the client of its number.
 pub struct Worker {
-    folder: PathBuf,
+    place: Place,
     number: u64,
     clients: u64,
     mode: Mode,
     notes: Notes,
     answered: Answered,
+    waits: Waits,
     random: Random,
     log: u64,
     shared: Box<dyn Shared>,
@@ -90,8 +83,8 @@ pub struct Worker {
 
 impl Worker {
     /// Goes on where the process of this number was killed.
-    pub fn start(folder: &Path, number: u64, clients: u64, mode: Mode, seed: u64) -> Result<Worker, Error> {
-        let file = |error: std::io::Error| Error::File(error.to_string());
+    pub fn start(place: &Place, number: u64, clients: u64, mode: Mode, seed: u64) -> Result<Worker, Error> {
+        let folder = place.folder();
         let asked = notes::read(folder, number).map_err(file)?.into_iter().filter_map(|note| match note {
             Note::Asked { value, .. } => Some(value + 1),
             _ => None,
@@ -100,11 +93,11 @@ impl Worker {
         let mut notes = Notes::open(folder, number).map_err(file)?;
         notes.add(Note::Started).map_err(file)?;
         let answered = Answered::open(folder, number, clients).map_err(file)?;
-        let log = log_count(folder).saturating_sub(1);
-        let shared = open(folder, log, mode, clients)?;
-        let folder = folder.to_path_buf();
-        let random = Random::new(seed);
-        Ok(Worker { folder, number, clients, mode, notes, answered, random, log, shared, value, fenced: false })
+        let mut waits = Waits::open(folder, number).map_err(file)?;
+        let log = place.log_count().saturating_sub(1);
+        let shared = waits.timed(|| open(place, log, mode, clients))?;
+        let (place, random) = (place.clone(), Random::new(seed));
+        Ok(Worker { place, number, clients, mode, notes, answered, waits, random, log, shared, value, fenced: false })
     }
 
     /// Goes on until it is killed, or until something fails.
@@ -117,7 +110,7 @@ impl Worker {
     }
 
     fn turn(&mut self) -> Result<(), Error> {
-        let log = self.shared.log()?;
+        let log = self.waits.timed(|| self.shared.log())?;
         let Ok(view) = log.view() else {
             // Only a store that is wrong gets here; the audit finds it.
             return self.rotate();
@@ -129,15 +122,15 @@ impl Worker {
             return self.any_step(ledger);
         }
         let step = match me.stage {
-            Stage::Waiting if named => Step::Become,
+            Stage::Waiting if named => Step::BECOME,
             Stage::Waiting => return self.wait(),
-            Stage::Fetching => Step::Fetch,
-            Stage::ClosingLast => Step::CloseLast,
-            Stage::Finishing => Step::Finish,
-            Stage::Creating if !named && self.random.chance(50) => Step::Abdicate,
-            Stage::Creating => Step::Create,
-            Stage::Appending => Step::Append,
-            Stage::Writing if self.fenced || self.random.chance(1) => Step::CloseOwn,
+            Stage::Fetching => Step::FETCH,
+            Stage::ClosingLast => Step::CLOSE_LAST,
+            Stage::Finishing => Step::FINISH,
+            Stage::Creating if !named && self.random.chance(50) => Step::ABDICATE,
+            Stage::Creating => Step::CREATE,
+            Stage::Appending => Step::APPEND,
+            Stage::Writing if self.fenced || self.random.chance(1) => Step::CLOSE_OWN,
             // A stale leader goes on too, until the fence.
             Stage::Writing => return self.write(),
         };
@@ -148,29 +141,28 @@ impl Worker {
     fn any_step(&mut self, ledger: Option<LedgerNumber>) -> Result<(), Error> {
         match self.random.below(13) {
             8 => self.write(),
-            10 => self.take(self.number, Step::Write(VALUE_LIMIT + 1)).map(drop),
-            11 => self.take(self.clients, Step::Write(1)).map(drop),
-            12 => self.take(255, Step::Name).map(drop),
-            number => self.other_step(Step::from_number(number, 0).expect("one of ten"), ledger),
+            10 => self.take(self.number, Step::write(VALUE_LIMIT + 1)).map(drop),
+            11 => self.take(self.clients, Step::write(1)).map(drop),
+            12 => self.take(255, Step::NAME).map(drop),
+            number => self.other_step(Step::new(Kind::from_number(number).expect("one of ten"), 0), ledger),
         }
     }
 
     /// Takes a step that is no write.
     fn other_step(&mut self, step: Step, ledger: Option<LedgerNumber>) -> Result<(), Error> {
         match self.take(self.number, step)? {
-            Ok(Answer::Done) if matches!(step, Step::Finish | Step::CloseOwn) => self.closed(ledger)?,
+            Ok(Answer::Done) if matches!(step.kind(), Kind::Finish | Kind::CloseOwn) => self.closed(ledger)?,
             Err(Refusal::NoLedgerNumber) => return self.rotate(),
             _ => {}
         }
-        self.fenced &= step != Step::CloseOwn;
+        self.fenced &= step != Step::CLOSE_OWN;
         Ok(())
     }
 
     /// Takes a step, and tells the others its row, or notes that it was refused.
     fn take(&mut self, client: u64, step: Step) -> Result<Result<Answer, Refusal>, Error> {
-        let file = |error: std::io::Error| Error::File(error.to_string());
         let (log, known) = (self.log, self.answered.known(self.log).map_err(file)?);
-        let result = self.shared.take(client, step);
+        let result = self.waits.timed(|| self.shared.take(client, step));
         let row = self.shared.row();
         match result {
             Ok(answer) => {
@@ -178,8 +170,8 @@ impl Worker {
                 Ok(Ok(answer))
             }
             Err(Error::Refused(refusal)) => {
-                let value = if let Step::Write(value) = step { value } else { 0 };
-                let (step, refused, row) = (step.number(), refusal.number(), row.unwrap_or(0));
+                let (value, refused, row) = (step.value(), refusal.number(), row.unwrap_or(0));
+                let step = step.kind().number();
                 self.note(Note::Refused(Refused { log, client, step, value, refusal: refused, known, row }))?;
                 Ok(Err(refusal))
             }
@@ -187,14 +179,15 @@ impl Worker {
         }
     }
 
-    /// A waiting client names itself now and then.
+    /// A waiting client names itself now and then. A look at a server costs more, so there are fewer.
     fn wait(&mut self) -> Result<(), Error> {
-        if self.random.below(400) == 0 {
-            return self.take(self.number, Step::Name).map(drop);
+        let (seldom, pause) = if self.place.is_server() { (60, (5_000, 20_000)) } else { (400, (200, 2_000)) };
+        if self.random.below(seldom) == 0 {
+            return self.take(self.number, Step::NAME).map(drop);
         }
-        std::thread::sleep(Duration::from_micros(self.random.between(200, 2_000)));
+        std::thread::sleep(Duration::from_micros(self.random.between(pause.0, pause.1)));
         // The others may have gone on to the next log.
-        if self.random.below(50) == 0 && log_file(&self.folder, self.log + 1).exists() {
+        if self.random.below(50) == 0 && self.place.has(self.log + 1) {
             return self.rotate();
         }
         Ok(())
@@ -205,14 +198,19 @@ impl Worker {
         self.value += 1;
         self.note(Note::Asked { log, value })?;
         if self.mode == Mode::AnswersEarly {
-            let mut notes = self.notes.again().map_err(|error| Error::File(error.to_string()))?;
+            let mut notes = self.notes.again().map_err(file)?;
             calls::before_write(move || {
                 let _ = notes.add(Note::Stored { log, value, at: None });
                 std::thread::sleep(Duration::from_micros(200));
             });
         }
-        let answer = self.take(self.number, Step::Write(value));
+        let answer = self.take(self.number, Step::write(value));
         calls::forget_before_write();
+        if let Err(error) = &answer
+            && error.stored() == Stored::No
+        {
+            self.note(Note::NotStored { log, value })?;
+        }
         match answer? {
             Ok(Answer::Stored(at)) => {
                 let at = Some((at.number.0, at.place.0));
@@ -246,11 +244,11 @@ impl Worker {
     fn rotate(&mut self) -> Result<(), Error> {
         self.log += 1;
         self.fenced = false;
-        self.shared = open(&self.folder, self.log, self.mode, self.clients)?;
+        self.shared = self.waits.timed(|| open(&self.place, self.log, self.mode, self.clients))?;
         Ok(())
     }
 
     fn note(&mut self, note: Note) -> Result<(), Error> {
-        self.notes.add(note).map_err(|error| Error::File(error.to_string()))
+        self.notes.add(note).map_err(file)
     }
 }

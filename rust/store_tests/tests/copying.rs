@@ -6,6 +6,7 @@ use std::os::unix::fs::MetadataExt;
 use std::sync::{Mutex, PoisonError};
 use store::{Error, Store};
 use store_tests::calls::{Done, What, traced, without_rename};
+use store_tests::checked::rows_of;
 use store_tests::crash::{Disk, Loss};
 use store_tests::kinds::{changes, prepared};
 use store_tests::scratch::Scratch;
@@ -31,7 +32,7 @@ fn after_each(room: &Scratch, events: &[Done]) -> Result<(), String> {
             let files = disk.after(loss, &mut random);
             let Some(bytes) = files.get(&room.file("copy.db")) else { continue };
             fs::write(&left, bytes).unwrap();
-            let rows = Store::open(&left).and_then(|mut store| store.check());
+            let rows = Store::open(&left).and_then(|mut store| rows_of(store.check()));
             if rows != Ok(4) {
                 return Err(format!("event {number}, {loss:?} lost: {rows:?}"));
             }
@@ -70,7 +71,7 @@ fn a_plain_rename() {
     });
     assert_eq!(fs::read_to_string(&taken).unwrap(), "mine");
     assert_eq!(fs::metadata(&copy).unwrap().nlink(), 1);
-    assert_eq!(Store::open(&copy).unwrap().check(), Ok(4));
+    assert_eq!(rows_of(Store::open(&copy).unwrap().check()), Ok(4));
     drop(store);
     let mut names: Vec<_> = fs::read_dir(room.folder()).unwrap().map(|file| file.unwrap().file_name()).collect();
     names.sort();

@@ -4,8 +4,10 @@ use cindrolf::{Capacity, Refusal, Step};
 use std::collections::BTreeMap;
 use std::path::Path;
 use std::sync::{Mutex, MutexGuard, PoisonError};
-use store::{Error, Store, Stored};
+use store::database::{Database, Mode};
+use store::{Error, PATIENCE, Store, Stored};
 use store_tests::calls::{counted, failing, limit_size};
+use store_tests::checked::rows_of;
 use store_tests::kinds::{Change, changes, prepared};
 use store_tests::scratch::Scratch;
 
@@ -66,7 +68,7 @@ fn each_call(change: &Change, more: &[(u64, Step)]) -> u64 {
             assert_eq!((change.make)(&mut store), Ok(()), "after {name}");
         }
         assert_eq!(held(&mut store), after, "after {name}");
-        assert_eq!(store.check(), Ok(after.0), "after {name}");
+        assert_eq!(rows_of(store.check()), Ok(after.0), "after {name}");
         // Once it is stored, nothing of the first try comes back.
         assert_eq!(held(&mut left_behind(&file, &room, calls + number)), after, "left after {name}");
     }
@@ -96,7 +98,7 @@ fn one_call_fails_of_each_length() {
     }
     assert!(lengths.len() >= 4 && lengths.keys().any(|&calls| calls > 10), "{lengths:?}");
     for (calls, first) in lengths {
-        let before: Vec<_> = (0..first).map(|value| (0, Step::Write(value))).collect();
+        let before: Vec<_> = (0..first).map(|value| (0, Step::write(value))).collect();
         assert_eq!(each_call(&write, &before), calls);
     }
 }
@@ -117,7 +119,7 @@ fn one_call_of_creating_fails() {
         }
         let mut store = Store::open(&file).unwrap();
         assert_eq!(store.become_leader(0), Ok(()));
-        assert_eq!(store.check(), Ok(1));
+        assert_eq!(rows_of(store.check()), Ok(1));
     }
 }
 
@@ -145,7 +147,7 @@ fn a_full_disk() {
     let chain: Vec<u64> = store.latest().unwrap().chain().unwrap();
     assert!(stored.iter().all(|value| chain.contains(value)), "an acknowledged write is lost");
     assert!(chain.len() <= stored.len() + failed);
-    store.check().unwrap();
+    rows_of(store.check()).unwrap();
 }
 
 // Nothing can be written at all; then there is room again.
@@ -166,5 +168,33 @@ fn no_space_and_room_again() {
     assert_eq!(store.write(1, 2), Err(Error::Refused(Refusal::DoesNotLead)));
     limit_size(0);
     assert_eq!(store.write(0, 3).unwrap().number.0, 1);
-    store.check().unwrap();
+    rows_of(store.check()).unwrap();
+}
+
+// The first request of a process fails, at each of its calls. Another process goes on, and then the first: whatever became
+// of its request, no two have the same id.
+#[test]
+fn no_id_is_given_twice() {
+    let _alone = alone();
+    let room = Scratch::new();
+    let mut failures = 0;
+    for number in 1..100 {
+        let file = room.file(&format!("ids-{number}.db"));
+        drop(prepared(&file, &changes()[8].before));
+        let (mut one, mut other) = (Store::open(&file).unwrap(), Store::open(&file).unwrap());
+        let (made, calls) = failing(number, || one.write(0, 1));
+        if calls < number {
+            break;
+        }
+        failures += u32::from(made.is_err());
+        for value in 0..3 {
+            other.write(0, 10 + value).unwrap();
+            one.write(0, 20 + value).unwrap();
+        }
+        let database = Database::open(&file, Mode::Existing, PATIENCE).unwrap();
+        let same = "SELECT count(*) - count(DISTINCT request) FROM journal";
+        assert_eq!(database.number(same).unwrap(), Some(0), "call {number}");
+        rows_of(one.check()).unwrap();
+    }
+    assert!(failures > 2, "{failures}");
 }

@@ -6,15 +6,16 @@ use std::fs;
 use std::path::Path;
 use store::database::{Database, Mode, Value};
 use store::{Error, PATIENCE, Store, Stored};
-use store_tests::forged::checksum;
+use store_tests::checked::rows_of;
+use store_tests::forged;
 use store_tests::kinds::{changes, prepared};
 use store_tests::scratch::{Scratch, as_a_user};
 
 /// A log with every kind of row, in one file.
 fn all_kinds(file: &Path) -> i64 {
     let mut store = Store::create(file, 3, Capacity::Small).unwrap();
-    let lead = [Step::Become, Step::Fetch, Step::Create, Step::Append];
-    for step in lead.into_iter().chain((0..5).map(|value| Step::Write(value * 1_000_003))) {
+    let lead = [Step::BECOME, Step::FETCH, Step::CREATE, Step::APPEND];
+    for step in lead.into_iter().chain((0..5).map(|value| Step::write(value * 1_000_003))) {
         let _ = store.take(0, step).unwrap();
     }
     store.write_scores(0, &[40, 372]).unwrap();
@@ -22,12 +23,12 @@ fn all_kinds(file: &Path) -> i64 {
     store.set_mark("elution".parse().unwrap()).unwrap();
     store.drop_mark("wash".parse().unwrap()).unwrap();
     store.revoke(2, Right::Name).unwrap();
-    let steps = [Step::Name, Step::Become, Step::Fetch, Step::CloseLast, Step::Finish, Step::Create, Step::Append];
-    for step in steps.into_iter().chain([Step::Write(7), Step::CloseOwn]) {
+    let steps = [Step::NAME, Step::BECOME, Step::FETCH, Step::CLOSE_LAST, Step::FINISH, Step::CREATE, Step::APPEND];
+    for step in steps.into_iter().chain([Step::write(7), Step::CLOSE_OWN]) {
         let _ = store.take(1, step).unwrap();
     }
-    let _ = store.take(0, Step::CloseOwn).unwrap();
-    let rows = store.check().unwrap();
+    let _ = store.take(0, Step::CLOSE_OWN).unwrap();
+    let rows = rows_of(store.check()).unwrap();
     drop(store);
     assert!(!file.with_extension("db-wal").exists());
     rows
@@ -36,7 +37,7 @@ fn all_kinds(file: &Path) -> i64 {
 /// Whether a file is refused; where it is, no byte of it has changed.
 fn refused(file: &Path) -> Result<i64, Error> {
     let before = fs::read(file).unwrap();
-    let result = Store::open(file).and_then(|mut store| store.check());
+    let result = Store::open(file).and_then(|mut store| rows_of(store.check()));
     if result.is_err() {
         assert!(fs::read(file).unwrap() == before, "a refused file was changed");
     }
@@ -47,9 +48,10 @@ fn refused(file: &Path) -> Result<i64, Error> {
 fn content(file: &Path) -> Result<Vec<String>, store::Fault> {
     let database = Database::open(file, Mode::Existing, PATIENCE)?;
     let mut lines = Vec::new();
-    for table in ["sqlite_schema", "log", "fresh_words", "journal"] {
+    for table in ["sqlite_schema", "log", "journal"] {
         database.prepare(&format!("SELECT * FROM {table} ORDER BY 1, 2"))?.each(&[], |row| {
-            lines.push(format!("{table} {:?}", (0..12).map(|column| row.value(column)).collect::<Vec<Value<'_>>>()));
+            // The last three columns of a row are for people, and nothing looks at them.
+            lines.push(format!("{table} {:?}", (0..9).map(|column| row.value(column)).collect::<Vec<Value<'_>>>()));
             Ok::<(), store::Fault>(())
         })?;
     }
@@ -86,8 +88,8 @@ fn other_versions() {
     all_kinds(&file);
     let set = |text: &str| Database::open(&file, Mode::Existing, PATIENCE).unwrap().execute(text).unwrap();
     set("PRAGMA user_version = 2");
-    assert!(matches!(refused(&file), Err(Error::NoLog(why)) if why == "its interface number is 2, and not 3"));
-    set("PRAGMA user_version = 3");
+    assert!(matches!(refused(&file), Err(Error::NoLog(why)) if why == "its user version is 2, and not 100"));
+    set("PRAGMA user_version = 100");
     set("PRAGMA application_id = 7");
     assert!(matches!(refused(&file), Err(Error::NoLog(why)) if why.starts_with("its application id is 7")));
 }
@@ -103,7 +105,7 @@ fn a_creation_that_was_not_finished() {
     for file in [empty, begun] {
         assert_eq!(Store::open(&file).err(), Some(Error::Unfinished));
         assert_eq!(Store::create(&file, 2, Capacity::Small).unwrap().name(1), Ok(()));
-        assert_eq!(Store::open(&file).unwrap().check(), Ok(1));
+        assert_eq!(rows_of(Store::open(&file).unwrap().check()), Ok(1));
     }
 }
 
@@ -142,9 +144,11 @@ fn rows_that_do_not_hold_together() {
     damaged("UPDATE journal SET kind = 14 WHERE seq = 5", "row 5 of its journal is none");
     damaged("UPDATE journal SET input = x'00' WHERE kind = 11", "was changed");
     damaged("DELETE FROM log", "its table log has no row");
-    damaged("UPDATE log SET client_count = 2", "fresh_words is not that of a fresh log");
-    damaged("UPDATE log SET entry_words = 100", "no log has 3 clients and 100 entry words");
-    damaged("UPDATE fresh_words SET word = 1 WHERE at = 1", "fresh_words is not that of a fresh log");
+    for changed in ["client_count = 2", "entry_words = 4096", "chain = x'00'"] {
+        damaged(&format!("UPDATE log SET {changed}"), "its table log was changed");
+    }
+    damaged("UPDATE journal SET request = request + 1 WHERE seq = 5", "row 5 of its journal was changed");
+    damaged("UPDATE journal SET part = 1 WHERE seq = 5", "row 5 of its journal was changed");
     damaged("DROP VIEW chain", "it has no chain");
     damaged("CREATE TABLE t (x)", "t is not as it was made");
     // The triggers keep a journal from being changed by mistake.
@@ -154,31 +158,50 @@ fn rows_that_do_not_hold_together() {
     assert!(database.execute("DELETE FROM journal").is_err());
 }
 
-// Rows whose checksums are right: words that are no log, and a step that would not leave these words.
+/// The numbers of row 0, with what is stored beside them.
+fn row_0(numbers: [u64; 3]) -> String {
+    let bytes: Vec<u8> = numbers.into_iter().flat_map(u64::to_be_bytes).collect();
+    let chain: String = digest::sha256(&bytes)[..16].iter().map(|byte| format!("{byte:02x}")).collect();
+    let [rules, clients, words] = numbers;
+    format!("UPDATE log SET rules = {rules}, client_count = {clients}, entry_words = {words}, chain = x'{chain}'")
+}
+
+// A row 0 that holds together: of another log, of other rules, or of none.
+#[test]
+fn other_beginnings() {
+    let room = Scratch::new();
+    let file = room.file("run.db");
+    let rows = all_kinds(&file);
+    assert_eq!(changed(&file, &room, &row_0([1, 3, 512])), Ok(rows));
+    let other = changed(&file, &room, &row_0([1, 4, 512]));
+    assert_eq!(other, Err(Error::Damaged("row 1 of its journal was changed".into())));
+    let rules = "it goes by version 2 of the rules, and this library by 1";
+    assert_eq!(changed(&file, &room, &row_0([2, 3, 512])), Err(Error::NoLog(rules.into())));
+    let none = "no log has 3 clients and 100 entry words";
+    assert_eq!(changed(&file, &room, &row_0([1, 3, 100])), Err(Error::Damaged(none.into())));
+    let none = "no log has 17 clients and 512 entry words";
+    assert_eq!(changed(&file, &room, &row_0([1, 17, 512])), Err(Error::Damaged(none.into())));
+}
+
+// Rows whose chain values are right: what anybody could have asked for is a row, and refused in its place it changes
+// nothing. Only an answer that is not the log's is reported.
 #[test]
 fn rows_that_nobody_stored() {
     let room = Scratch::new();
     let file = room.file("run.db");
-    drop(Store::create(&file, 2, Capacity::Large).unwrap());
-    let database = Database::open(&file, Mode::Existing, PATIENCE).unwrap();
-    let head = database.number("SELECT word FROM fresh_words WHERE at = 0").unwrap().unwrap() as u64;
-    drop(database);
-    let named = head | 1 << 30;
-    let first = |client: u64, word: u64| {
-        let columns = [Some(1), Some(0), Some(client), None, Some(0), Some(0), Some(word), None, None, None, None];
-        let sum = checksum(0xCBF2_9CE4_8422_2325, &columns) as i64;
-        let word = word as i64;
-        format!("INSERT INTO journal VALUES (1, 0, {client}, NULL, 0, 0, {word}, NULL, NULL, NULL, NULL, {sum})")
+    let row = |kind, client, answer| {
+        let _ = fs::remove_file(&file);
+        drop(Store::create(&file, 2, Capacity::Large).unwrap());
+        forged::add(&file, [7 << 32, 0, kind, client], Value::Null, &[], answer).unwrap();
+        let mut store = Store::open(&file).unwrap();
+        let named = store.latest().unwrap().view().unwrap().named_leader();
+        (named, store.check().unwrap().wrong.iter().map(ToString::to_string).collect::<Vec<_>>())
     };
-    // This is what naming client 1 leaves.
-    assert_eq!(changed(&file, &room, &first(1, named)), Ok(1));
-    let damaged = |statement: &str, says: &str| match changed(&file, &room, statement) {
-        Err(Error::Damaged(why)) => assert!(why.contains(says), "{statement}: {why}"),
-        other => panic!("{statement}: {other:?}"),
-    };
-    damaged(&first(1, named | 1), "its words are not well formed");
-    damaged(&first(1, head), "row 1 of its journal is not what the log gives");
-    damaged(&first(0, head), "row 1 of its journal is a step that the log refuses");
+    assert_eq!(row(0, 1, 0), (1, vec![]));
+    assert_eq!(row(0, 0, 256 + 4), (0, vec![]));
+    assert_eq!(row(0, 99, 256 + 3), (0, vec![]));
+    assert_eq!(row(0, 0, 0), (0, vec!["row 1 of forger has the answer 'ok', and the log gives 'ref 4'".into()]));
+    assert_eq!(row(0, 1, 77), (1, vec!["row 1 of forger has the answer 'number 77', and the log gives 'ok'".into()]));
 }
 
 // Any bit of any number or bytes of a row.
@@ -187,7 +210,7 @@ fn single_bits_of_rows() {
     let room = Scratch::new();
     let file = room.file("run.db");
     let rows = all_kinds(&file) as u64;
-    let columns = ["kind", "client", "input", "answer", "at1", "word1", "at2", "word2", "at3", "word3", "checksum"];
+    let columns = ["request", "part", "kind", "client", "input"];
     let mut random = Random::new(1);
     let mut found = 0;
     while found < 300 {
@@ -267,7 +290,7 @@ fn a_leftover_write_ahead_log() {
         fs::copy(&file, &copy).unwrap();
         fs::write(copy.with_extension("db-wal"), &log[..length]).unwrap();
         let left = match Store::open(&copy) {
-            Ok(mut left) => left.check().unwrap(),
+            Ok(mut left) => rows_of(left.check()).unwrap(),
             // Its creation is the first that the write-ahead log has.
             Err(Error::Unfinished) => 0,
             Err(error) => panic!("{length} of {} bytes: {error}", log.len()),
@@ -277,7 +300,7 @@ fn a_leftover_write_ahead_log() {
         let _ = fs::remove_file(copy.with_extension("db-shm"));
     }
     assert_eq!(last, 0);
-    store.check().unwrap();
+    rows_of(store.check()).unwrap();
 }
 
 fn mode(path: &Path, mode: u32) {
@@ -314,7 +337,7 @@ fn a_read_only_folder() {
         let error = Store::open(&file).expect_err("no folder to write in");
         assert!(error.to_string().contains("the file or its folder cannot be written"), "{error}");
         let mut store = Store::open(&copy).unwrap();
-        assert_eq!(store.check(), Ok(rows));
+        assert_eq!(rows_of(store.check()), Ok(rows));
         assert_eq!(store.name(0).unwrap_err().stored(), Stored::No);
         assert!(Store::create(room.file("new.db"), 1, Capacity::Large).is_err());
     });
@@ -359,7 +382,7 @@ fn a_copy_while_others_write() {
         end.store(true, std::sync::atomic::Ordering::Relaxed);
     });
     let mut copied = Store::open(&copy).unwrap();
-    let rows = copied.check().unwrap();
+    let rows = rows_of(copied.check()).unwrap();
     assert!((50..=store.latest().unwrap().rows()).contains(&rows));
     // It is a log that goes on from there.
     assert_eq!(copied.write(0, 1).unwrap().number.0 as i64, rows - 4);

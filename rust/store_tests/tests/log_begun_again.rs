@@ -6,6 +6,7 @@ use std::path::Path;
 use std::time::Duration;
 use store::database::{Database, Mode, Statement, Value};
 use store::{PATIENCE, Store};
+use store_tests::checked::rows_of;
 use store_tests::kinds::{changes, prepared};
 use store_tests::scratch::Scratch;
 use store_tests::shim::{Pauses, Place, install, pause_at, pauses, pauses_left};
@@ -127,7 +128,7 @@ fn nothing_lost(file: &Path, acknowledged: &[u64]) {
         assert!(held.contains(value), "the write of {value} was acknowledged, and is lost; {} are left", held.len());
     }
     assert_eq!(held.len(), acknowledged.len());
-    store.check().unwrap();
+    rows_of(store.check()).unwrap();
 }
 
 #[test]

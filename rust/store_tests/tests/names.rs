@@ -97,7 +97,7 @@ fn a_write_ahead_log_that_was_removed() {
     // The second write is gone with the file that it was in, and the store that was told of it says so.
     for _ in 0..2 {
         let error = store.write(0, 4).unwrap_err();
-        let why = "row 6 of its journal, which this process has read or stored, is missing";
+        let why = "row 6 of its journal, which this process has read or stored, is missing or another";
         assert_eq!(error, Error::Damaged(why.into()));
     }
     assert_eq!(values(&mut Store::open(&file).unwrap()), [1]);

@@ -6,6 +6,7 @@ use std::path::{Path, PathBuf};
 use std::process::Command;
 use store::database::{Database, Mode};
 use store::{Error, PATIENCE, Store};
+use store_tests::checked::rows_of;
 use store_tests::kernel::failing_read;
 use store_tests::kinds::{changes, prepared};
 use store_tests::scratch::{Scratch, as_a_user};
@@ -116,7 +117,7 @@ fn checkpoints_beside_steps() {
         }
     });
     assert_eq!(values(&mut store).len(), 2_000);
-    store.check().unwrap();
+    rows_of(store.check()).unwrap();
 }
 
 #[test]
@@ -127,7 +128,7 @@ fn to_read_only() {
     let before = fs::read(&file).unwrap();
     let mut reader = Store::open_read_only(&file).unwrap();
     assert_eq!(values(&mut reader).len(), 10);
-    assert_eq!(reader.check(), Ok(14));
+    assert_eq!(rows_of(reader.check()), Ok(14));
     assert_eq!(reader.write(0, 10), Err(Error::ReadOnly));
     assert_eq!(reader.set_mark("wash".parse().unwrap()), Err(Error::ReadOnly));
     assert_eq!(reader.checkpoint(), Err(Error::ReadOnly));
@@ -197,7 +198,7 @@ fn a_write_ahead_log_of_another_log() {
         assert_eq!(fs::read(beside(&other, "-wal")).unwrap(), wal);
     }
     fs::remove_file(beside(&other, "-wal")).unwrap();
-    assert_eq!(Store::open(&other).unwrap().check(), Ok(0));
+    assert_eq!(rows_of(Store::open(&other).unwrap().check()), Ok(0));
 }
 
 // A disk from which one read fails: the check says that, and no more.
@@ -220,7 +221,7 @@ fn a_read_that_fails() {
         assert!(error.contains("the disk failed"), "read {number}: {error}");
     }
     assert!(number > 5, "{number}");
-    store.check().unwrap();
+    rows_of(store.check()).unwrap();
 }
 
 #[test]

@@ -57,7 +57,7 @@ impl Life<'_> {
 fn begun(life: &mut Life<'_>, file: &Path) -> Store {
     let mut store = Store::create(file, 2, Capacity::Large).unwrap();
     life.answered(&store);
-    for step in [Step::Become, Step::Fetch, Step::Create, Step::Append] {
+    for step in [Step::BECOME, Step::FETCH, Step::CREATE, Step::APPEND] {
         let _ = store.take(0, step).unwrap();
         life.answered(&store);
     }
@@ -72,7 +72,7 @@ fn life(file: &Path) -> Vec<Event> {
         let mut other = Store::open(file).unwrap();
         life.writes(&mut [&mut one, &mut other], 30);
         // Several rows by one commit.
-        let word = |value| StepWord::new(0, Step::Write(value)).unwrap();
+        let word = |value| StepWord::new(0, Step::write(value)).unwrap();
         one.run_plan(&[word(1), word(2), word(3)].repeat(60), u64::MAX).unwrap();
         life.answered(&one);
         one.checkpoint().unwrap();

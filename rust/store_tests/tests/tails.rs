@@ -3,6 +3,7 @@
 use cindrolf::{Capacity, Refusal, Step};
 use store::database::{Database, Mode};
 use store::{Error, LastRow, PATIENCE, Store};
+use store_tests::checked::rows_of;
 use store_tests::kinds::{changes, prepared};
 use store_tests::scratch::Scratch;
 
@@ -45,16 +46,16 @@ fn a_log_that_has_it_and_one_that_does_not() {
     let database = Database::open(&file, Mode::Existing, PATIENCE).unwrap();
     database.execute("DROP TRIGGER journal_is_not_shortened").unwrap();
     database.execute("DELETE FROM journal WHERE seq > 14").unwrap();
-    database.execute(include_str!("../../store/src/sql/journal_is_not_shortened.sql")).unwrap();
+    database.execute(include_str!("../../store/src/file/sql/journal_is_not_shortened.sql")).unwrap();
     drop(database);
     let mut store = Store::open(&file).unwrap();
-    assert_eq!(store.check(), Ok(14));
+    assert_eq!(rows_of(store.check()), Ok(14));
     for row in rows {
         let lost = format!("it ends at row 14, and the rows up to {} are missing", row.number);
         assert_eq!(store.has_row(row), if row.number <= 14 { Ok(()) } else { Err(Error::Damaged(lost)) });
     }
     // The store goes on after that.
-    let _ = store.take(0, Step::Write(99)).unwrap();
+    let _ = store.take(0, Step::write(99)).unwrap();
 }
 
 #[test]

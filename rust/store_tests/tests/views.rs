@@ -1,7 +1,7 @@
 //! The views of a log's file, against what the library reads.
 
 use cindrolf::{
-    Capacity, Client, EntryNumber, Ledger, LedgerNumber, Right, Stage, Step, StepWord, VALUE_LIMIT, client_of,
+    Capacity, Client, EntryNumber, Kind, Ledger, LedgerNumber, Right, Step, StepWord, VALUE_LIMIT, client_of,
     ledger_of, value_of,
 };
 use model::random::Random;
@@ -9,6 +9,8 @@ use std::path::Path;
 use std::time::{Duration, Instant};
 use store::database::{Database, Mode, Value};
 use store::{Latest, Store};
+use store_tests::checked::rows_of;
+use store_tests::plans::random_plan;
 use store_tests::scratch::Scratch;
 
 /// The rows of a view, as text, and how long they took.
@@ -39,18 +41,6 @@ fn or_none(number: Option<u64>) -> String {
 
 fn exact(sum: u128) -> String {
     format!("{}.{:012}", sum / 1_000_000_000_000, sum % 1_000_000_000_000)
-}
-
-fn stage_name(stage: Stage) -> &'static str {
-    match stage {
-        Stage::Waiting => "waiting",
-        Stage::Fetching => "fetching",
-        Stage::ClosingLast => "closing last",
-        Stage::Creating => "creating",
-        Stage::Appending => "appending",
-        Stage::Writing => "writing",
-        Stage::Finishing => "finishing",
-    }
 }
 
 /// The rows of `entries`.
@@ -87,7 +77,7 @@ fn clients(latest: Latest<'_>) -> Vec<String> {
     let row = |(number, client): (u64, Client)| {
         let named = u64::from(view.named_leader() == number);
         let written = chain.iter().filter(|&&word| client_of(word) == number).count();
-        let (stage, ledger) = (stage_name(client.stage), or_none(client.ledger.map(|ledger| ledger.number.0)));
+        let (stage, ledger) = (client.stage.name(), or_none(client.ledger.map(|ledger| ledger.number.0)));
         let leads = u64::from(client.leads);
         format!("{number} {named} {leads} {stage} {} {ledger} {written}", or_none(client.list_version))
     };
@@ -126,28 +116,6 @@ fn compare(store: &mut Store) {
     }
 }
 
-/// Random steps: some that lead to writes, broken off at any place, and others in between.
-fn steps(random: &mut Random, clients: u64, count: usize) -> Vec<StepWord> {
-    use Step::*;
-    let lead = [Name, Become, Fetch, CloseLast, Finish, Create, Append, Write(0), Write(0), CloseOwn, Create, Append];
-    let mut plan = Vec::new();
-    while plan.len() < count {
-        let (client, length) = (random.below(clients), random.between(1, lead.len() as u64));
-        for &step in &lead[..length as usize] {
-            let value = if random.chance(20) { VALUE_LIMIT } else { random.below(1 << 40) };
-            let step = if matches!(step, Write(_)) { Write(value) } else { step };
-            plan.push(StepWord::new(client, step).unwrap());
-            if random.chance(10) {
-                plan.push(
-                    StepWord::new(random.below(clients), random.pick(&[Abdicate, Write(value), CloseOwn])).unwrap(),
-                );
-            }
-        }
-    }
-    plan.truncate(count);
-    plan
-}
-
 #[test]
 fn random_logs() {
     let mut random = Random::new(5);
@@ -156,7 +124,7 @@ fn random_logs() {
         let mut store = Store::create(room.file("run.db"), clients, Capacity::Small).unwrap();
         compare(&mut store);
         for round in 0..8 {
-            let plan = steps(&mut random, clients, 150 * clients as usize);
+            let plan = random_plan(&mut random, clients, 150 * clients as usize);
             store.run_plan(&plan, u64::MAX).unwrap();
             store.set_mark(format!("m{round}").parse().unwrap()).unwrap();
             if round % 3 == 2 {
@@ -166,7 +134,7 @@ fn random_logs() {
             compare(&mut store);
         }
         assert!(store.latest().unwrap().view().unwrap().entry_count() > 20);
-        store.check().unwrap();
+        rows_of(store.check()).unwrap();
     }
 }
 
@@ -181,10 +149,9 @@ fn the_steps() {
     let mut wanted = Vec::new();
     for (line, reply) in text.split('|').map(|line| line.split_at(line.find(['o', 'b', 'r', 'e']).unwrap())) {
         let words: Vec<&str> = line.split_whitespace().collect();
-        let number = "NBAFLKCPWO".find(words[0]).unwrap() as u64;
+        let kind = Kind::from_letter(words[0].parse().unwrap()).unwrap();
         let value = words.get(2).map(|value| value.parse().unwrap());
-        let step = Step::from_number(number, value.unwrap_or(0)).unwrap();
-        let answer = store.take(words[1].parse().unwrap(), step);
+        let answer = store.take(words[1].parse().unwrap(), Step::new(kind, value.unwrap_or(0)));
         assert_eq!(answer.is_err(), reply == "ref", "{line}");
         if reply != "ref" {
             wanted.push(format!("{} {} {} {} {reply}", wanted.len() + 1, words[0], words[1], or_none(value)));
@@ -203,12 +170,12 @@ fn a_full_log() {
     let mut plan = Vec::new();
     for turn in 0..255 {
         let client = turn % 16;
-        let lead = [Step::Name, Step::Become, Step::Fetch, Step::CloseLast, Step::Finish, Step::Create, Step::Append];
-        let writes = [Step::Write(VALUE_LIMIT); 17];
-        let leave = [(client + 1) % 16].map(|next| StepWord::new(next, Step::Name).unwrap());
+        let lead = [Step::NAME, Step::BECOME, Step::FETCH, Step::CLOSE_LAST, Step::FINISH, Step::CREATE, Step::APPEND];
+        let writes = [Step::write(VALUE_LIMIT); 17];
+        let leave = [(client + 1) % 16].map(|next| StepWord::new(next, Step::NAME).unwrap());
         plan.extend(lead.into_iter().chain(writes).map(|step| StepWord::new(client, step).unwrap()));
         plan.extend(leave);
-        plan.push(StepWord::new(client, Step::Abdicate).unwrap());
+        plan.push(StepWord::new(client, Step::ABDICATE).unwrap());
     }
     store.run_plan(&plan, u64::MAX).unwrap();
     store.set_mark("full".parse().unwrap()).unwrap();
@@ -216,7 +183,7 @@ fn a_full_log() {
     assert_eq!((view.entry_count(), view.next_ledger()), (4_096, None));
     assert!(view.entry(EntryNumber(4_095)).is_some());
     compare(&mut store);
-    for view in ["entries", "chain", "ledgers", "clients", "steps", "marks", "rights", "total", "words"] {
+    for view in ["entries", "chain", "ledgers", "clients", "steps", "marks", "rights", "total", "moves"] {
         // All columns are computed, though only the first is looked at.
         let (shown, taken) = rows(&file, view, "*");
         assert!(!shown.is_empty(), "{view}");
@@ -231,8 +198,8 @@ fn the_example_of_the_reference() {
     let room = Scratch::new();
     let file = room.file("run.db");
     let mut store = Store::create(&file, 1, Capacity::Large).unwrap();
-    let lead = [Step::Become, Step::Fetch, Step::Create, Step::Append];
-    let plan: Vec<_> = lead.into_iter().chain([Step::Write(VALUE_LIMIT); 4_096]).collect();
+    let lead = [Step::BECOME, Step::FETCH, Step::CREATE, Step::APPEND];
+    let plan: Vec<_> = lead.into_iter().chain([Step::write(VALUE_LIMIT); 4_096]).collect();
     let plan: Vec<_> = plan.into_iter().map(|step| StepWord::new(0, step).unwrap()).collect();
     store.run_plan(&plan, u64::MAX).unwrap();
     let reference = concat!(env!("CARGO_MANIFEST_DIR"), "/../../docs/REFERENCE.md");
@@ -249,7 +216,7 @@ fn the_example_of_the_reference() {
 fn a_plan_is_its_steps() {
     let mut random = Random::new(6);
     let room = Scratch::in_memory();
-    let plan = steps(&mut random, 3, 900);
+    let plan = random_plan(&mut random, 3, 900);
     let mut by_plan = Store::create(room.file("plan.db"), 3, Capacity::Small).unwrap();
     let mut singly = Store::create(room.file("singly.db"), 3, Capacity::Small).unwrap();
     let forecast = by_plan.latest().unwrap().forecast(&plan, 800);
@@ -262,7 +229,8 @@ fn a_plan_is_its_steps() {
     let (one, other) = (by_plan.latest().unwrap(), singly.latest().unwrap());
     assert_eq!(one.log().state(), other.log().state());
     assert_eq!(one.log().entries(), other.log().entries());
-    assert_eq!(one.rows(), other.rows());
+    // A request has a row for each of its steps, and a refused step that is taken by itself has none.
+    assert_eq!((one.rows(), other.rows()), (800, 800 - refusals as i64));
     // And the proved runner leaves the same.
     let mut log = cindrolf::Log::fresh_with(3, Capacity::Small).unwrap();
     assert_eq!(log.run_plan(&cindrolf::Rights::all(3).unwrap(), &plan, 800), 800);

@@ -2,7 +2,7 @@
 
 use crate::escape::visible;
 use crate::scene::{Change, Drawn, Scene};
-use cindrolf::{Answer, Error, Log, Refusal, Stage, Step, client_of, value_of};
+use cindrolf::{Answer, Error, Kind, Log, Stage, Step, client_of, value_of};
 use session::{Line, NoSession, Session, reply, total_lines};
 
 /// How a line went.
@@ -105,41 +105,32 @@ fn frame(line: &Line, log: &mut Log, scene: &mut Scene) -> Result<Frame, Error> 
     let (outcome, text) = match taken {
         Err(Error::Refused(refusal)) => {
             changes.extend(blocked(client, step, scene));
-            (Outcome::Refused, sentence(refusal, client, step)?)
+            (Outcome::Refused, refusal.sentence(step.kind(), client)?)
         }
         Err(error) => return Err(error),
-        Ok(Answer::Behind) => (Outcome::Behind, told(client, step, Some("another client was faster"), &changes)?),
-        Ok(Answer::WasClosed) => (Outcome::Taken, told(client, step, Some("the ledger was closed already"), &changes)?),
-        Ok(_) => (Outcome::Taken, told(client, step, None, &changes)?),
+        Ok(Answer::Behind) => (Outcome::Behind, told(client, step, Some("another client was faster"), &changes)),
+        Ok(Answer::WasClosed) => (Outcome::Taken, told(client, step, Some("the ledger was closed already"), &changes)),
+        Ok(_) => (Outcome::Taken, told(client, step, None, &changes)),
     };
-    Ok(Frame { mark: mark(&shown, step), line: shown, reply, outcome, client: Some(client), text, changes })
+    Ok(Frame { mark: mark(step), line: shown, reply, outcome, client: Some(client), text, changes })
 }
 
 /// The entry that a refused write would have stored, where its client writes to a ledger.
 fn blocked(client: u64, step: Step, scene: &Scene) -> Option<Change> {
-    let Step::Write(value) = step else { return None };
     let standing = scene.clients.get(client as usize).filter(|standing| standing.stage == Stage::Writing)?;
-    Some(Change::Blocked(Drawn { ledger: standing.ledger?, client, value }))
-}
-
-fn sentence(refusal: Refusal, client: u64, step: Step) -> Result<String, Error> {
-    refusal.sentence(step.number(), client)
+    let entry = Drawn { ledger: standing.ledger?, client, value: step.value() };
+    (step.kind() == Kind::Write).then_some(Change::Blocked(entry))
 }
 
 /// A step that was taken, in the form of a sentence: the step and its client, a reason, and what has changed.
-fn told(client: u64, step: Step, reason: Option<&str>, changes: &[Change]) -> Result<String, Error> {
-    // Every sentence of the step begins with it; which one is taken doesn't matter.
-    let whole = sentence(Refusal::LogFull, client, step)?;
-    let begin = whole.split_once(": ").map_or("", |(begin, _)| begin);
+fn told(client: u64, step: Step, reason: Option<&str>, changes: &[Change]) -> String {
     let parts: Vec<_> = reason.map(String::from).into_iter().chain(changes.iter().filter_map(Change::text)).collect();
-    Ok(format!("{begin}: {}", parts.join("; ")))
+    format!("{} of client {client}: {}", step.kind(), parts.join("; "))
 }
 
-fn mark(line: &str, step: Step) -> String {
-    match step {
-        Step::Write(value) if value < 1000 => format!("W {value}"),
-        _ => line.chars().take(1).collect(),
-    }
+fn mark(step: Step) -> String {
+    let (letter, value) = (step.kind().letter(), step.value());
+    if step.kind() == Kind::Write && value < 1000 { format!("{letter} {value}") } else { letter.into() }
 }
 
 /// The chain, the total and the rounded total.

@@ -3,11 +3,9 @@
 //! What is shown is computed here, by taking each step on the proved log. The page's script applies and undoes these
 //! changes; it knows no rule of the log.
 
-pub mod arguments;
 mod data;
 pub mod escape;
 pub mod frames;
-pub mod output;
 pub mod page;
 mod policy;
 pub mod scene;

@@ -145,8 +145,8 @@
   // The steps that fit beside the clients, with the present one among them.
   function columns() {
     const size = parseFloat(getComputedStyle(document.documentElement).fontSize);
-    const beside = parseFloat(getComputedStyle(byId("lanes")).getPropertyValue("--beside"));
-    const fit = Math.max(3, Math.floor((byId("lanes").parentElement.clientWidth / size - beside) / 3));
+    const [beside, column] = ["--beside", "--column"].map((name) => parseFloat(getComputedStyle(byId("lanes")).getPropertyValue(name)));
+    const fit = Math.max(3, Math.floor((byId("lanes").parentElement.clientWidth / size - beside) / column));
     const count = Math.min(last + 1, fit);
     const from = Math.max(0, Math.min(at - Math.floor(count * 0.7), last + 1 - count));
     return Array.from({ length: count }, (_, place) => from + place);

@@ -5,13 +5,11 @@ use crate::escape::markup;
 use crate::frames::{Frame, Frames, Outcome};
 use crate::policy::source;
 use crate::svg;
+use limits::DRAWN_LIMIT;
 use session::NoSession;
 
 const STYLE: &str = include_str!("page.css");
 const SCRIPT: &str = include_str!("page.js");
-
-/// The most steps whose static picture is part of the page. Beyond it there is the list alone.
-pub const DRAWN_LIMIT: usize = 200;
 
 /// How many steps a part of the list has.
 const PART: usize = 200;
@@ -98,7 +96,7 @@ fn session(name: &str, frames: &Frames) -> String {
 fn still(name: &str, frames: &Frames) -> String {
     if frames.frames.len() > DRAWN_LIMIT {
         return format!(
-            "<p>The session has more than {DRAWN_LIMIT} steps: <code>./trace --svg</code> draws them all.</p>\n"
+            "<p>The session has more than {DRAWN_LIMIT} steps: <code>cindrolf trace --svg</code> draws them all.</p>\n"
         );
     }
     svg::drawing(name, frames)
@@ -143,5 +141,5 @@ const LIVE: &str = "\
 
 const KEY: &str = "\
 <p id=\"key\">\u{25c6} or a heavy outline: changed by this step. A ledger is open to the right, dashed while it recovers, \
-shaded once it is closed; the striped post is its fence.</p>
+shaded once it is closed; the striped post is its fence. A striped lane writes to a ledger that is fenced.</p>
 ";

@@ -15,18 +15,9 @@ impl Standing {
         }
     }
 
-    /// One word, for a place in a lane. A client that does not lead has none.
+    /// The stage's name, for a place in a lane. A client that does not lead has none.
     pub fn short(&self) -> &'static str {
-        match self.stage {
-            Stage::Writing if self.fenced => "fenced",
-            Stage::Waiting => "",
-            Stage::Fetching => "fetch",
-            Stage::ClosingLast => "fence",
-            Stage::Creating => "create",
-            Stage::Appending => "append",
-            Stage::Writing => "write",
-            Stage::Finishing => "close",
-        }
+        if self.stage == Stage::Waiting { "" } else { self.stage.name() }
     }
 
     /// What the client does there.

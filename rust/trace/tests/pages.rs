@@ -18,7 +18,7 @@ fn drawn(name: &str, input: &[u8]) -> [String; 2] {
 
 /// A client count, a beginning, and as many repetitions of some lines as 16,384 bytes hold.
 fn filled(beginning: &str, repeated: &str) -> Vec<u8> {
-    let count = (session::INPUT_LIMIT - beginning.len()) / repeated.len();
+    let count = (limits::INPUT_LIMIT - beginning.len()) / repeated.len();
     (beginning.to_string() + &repeated.repeat(count)).into_bytes()
 }
 
@@ -41,7 +41,7 @@ fn largest() -> Vec<(&'static str, Vec<u8>)> {
 #[test]
 fn the_largest_pages_are_below_two_megabytes() {
     for (name, input) in largest() {
-        assert!(input.len() <= session::INPUT_LIMIT && input.len() > session::INPUT_LIMIT - 64, "{name}");
+        assert!(input.len() <= limits::INPUT_LIMIT && input.len() > limits::INPUT_LIMIT - 64, "{name}");
         let start = Instant::now();
         let [page, picture] = drawn(name, &input);
         println!("{name}: page {} bytes, picture {} bytes, {:?}", page.len(), picture.len(), start.elapsed());

@@ -1,11 +1,13 @@
-//! Acknowledged writes a second, by the store beside plain SQLite: every 100 ms all processes change from one to the other.
+//! Acknowledged writes a second, by the store beside plain SQLite, and one by one beside requests of many: every 100 ms all
+//! processes change from one to the other.
 
-use cindrolf::{Advice, Answer, Capacity, Log, Refusal, Rights, Step};
+use cindrolf::{Answer, Capacity, Kind, Log, Refusal, Rights, Step};
+use limits::BATCH_LIMIT;
 use std::path::{Path, PathBuf};
 use std::process::{Child, Command, ExitCode, Stdio};
 use std::time::{Duration, Instant, SystemTime, UNIX_EPOCH};
 use store::database::{Database, Mode, Statement, Value};
-use store::{Error, PATIENCE, Store};
+use store::{Asked, Change, Error, PATIENCE, Store};
 use store_tests::calls;
 use store_tests::scratch::Scratch;
 use store_tests::shared::open_store;
@@ -17,7 +19,7 @@ fn main() -> ExitCode {
     let words: Vec<String> = std::env::args().skip(1).collect();
     let words: Vec<&str> = words.iter().map(String::as_str).collect();
     let result = match words[..] {
-        ["worker", folder, until, delay] => work(Path::new(folder), until, delay),
+        ["worker", folder, until, delay, beside] => work(Path::new(folder), until, delay, beside),
         _ => options(&words).and_then(|(seconds, folder)| table(seconds, &folder)),
     };
     match result {
@@ -41,6 +43,13 @@ fn options(words: &[&str]) -> Result<(u64, PathBuf), String> {
     Ok((seconds, folder))
 }
 
+/// What the store's single writes are compared with.
+const PLAIN: &str = "plain";
+const REQUESTS: &str = "requests";
+
+/// How many writes a request of many has.
+const MANY: u64 = BATCH_LIMIT as u64;
+
 /// What one process did on one side.
 #[derive(Clone, Copy, Default)]
 struct Side {
@@ -49,8 +58,8 @@ struct Side {
 }
 
 impl Side {
-    fn add(&mut self, taken: Duration) {
-        self.writes += 1;
+    fn add(&mut self, writes: u64, taken: Duration) {
+        self.writes += writes;
         self.longest = self.longest.max(taken);
     }
 }
@@ -64,16 +73,31 @@ fn table(seconds: u64, folder: &Path) -> Result<(), String> {
             row(seconds, folder, processes, delay)?;
         }
     }
+    println!("\n| A sync takes longer by | One by one | In requests of {MANY} | Times |\n|---|---|---|---|");
+    for delay in [0, 1_000] {
+        let sides = measured(seconds, folder, 1, delay, REQUESTS)?;
+        let [single, many] = [0, 1].map(|side| rate(&sides, side, seconds));
+        println!("| {delay} µs | {single:.0} | {many:.0} | {:.0} |", many / single);
+    }
     Ok(())
 }
 
-fn row(seconds: u64, folder: &Path, processes: usize, delay: u64) -> Result<(), String> {
+fn measured(seconds: u64, folder: &Path, processes: usize, delay: u64, beside: &str) -> Result<Vec<[Side; 2]>, String> {
     let scratch = Scratch::below(folder);
     let until = since_epoch() + Duration::from_secs(seconds);
-    let children = (0..processes).map(|_| start(scratch.folder(), until, delay)).collect::<Result<Vec<_>, _>>()?;
-    let sides = children.into_iter().map(result_of).collect::<Result<Vec<_>, _>>()?;
-    let rate = |side: usize| sides.iter().map(|sides| sides[side].writes).sum::<u64>() as f64 / (seconds as f64 / 2.0);
-    let (store, plain) = (rate(0), rate(1));
+    let start = |_| start(scratch.folder(), until, delay, beside);
+    let children = (0..processes).map(start).collect::<Result<Vec<_>, _>>()?;
+    children.into_iter().map(result_of).collect()
+}
+
+/// The writes a second of all processes on one side, which has half of the time.
+fn rate(sides: &[[Side; 2]], side: usize, seconds: u64) -> f64 {
+    sides.iter().map(|sides| sides[side].writes).sum::<u64>() as f64 / (seconds as f64 / 2.0)
+}
+
+fn row(seconds: u64, folder: &Path, processes: usize, delay: u64) -> Result<(), String> {
+    let sides = measured(seconds, folder, processes, delay, PLAIN)?;
+    let [store, plain] = [0, 1].map(|side| rate(&sides, side, seconds));
     let longest = sides.iter().map(|sides| sides[0].longest).max().unwrap_or_default();
     println!(
         "| {processes} | {delay} µs | {plain:.0} | {store:.0} | {:.2} | {:.2} | {} ms |",
@@ -90,10 +114,10 @@ fn jain(counts: &[f64]) -> f64 {
     sum * sum / (counts.len() as f64 * squares)
 }
 
-fn start(folder: &Path, until: Duration, delay: u64) -> Result<Child, String> {
+fn start(folder: &Path, until: Duration, delay: u64, beside: &str) -> Result<Child, String> {
     let program = std::env::current_exe().map_err(|error| error.to_string())?;
     let mut command = Command::new(program);
-    command.arg("worker").arg(folder).args([until.as_millis().to_string(), delay.to_string()]);
+    command.arg("worker").arg(folder).args([until.as_millis().to_string(), delay.to_string(), beside.into()]);
     command.stdout(Stdio::piped()).spawn().map_err(|error| error.to_string())
 }
 
@@ -110,11 +134,13 @@ fn result_of(child: Child) -> Result<[Side; 2], String> {
     }
 }
 
-/// What a process does: in turn, each for a slot of the clock that all share, it writes by the store and by plain SQLite.
-fn work(folder: &Path, until: &str, delay: &str) -> Result<(), String> {
+/// What a process does: in turn, each for a slot of the clock that all share, it writes by the store, one by one, and by
+/// plain SQLite or in requests of many.
+fn work(folder: &Path, until: &str, delay: &str, beside: &str) -> Result<(), String> {
     let until = Duration::from_millis(until.parse().map_err(|_| USAGE)?);
     calls::delay_sync(Duration::from_micros(delay.parse().map_err(|_| USAGE)?));
-    let mut logs = Logs::open(folder, 0).map_err(|error| error.to_string())?;
+    let open = |name: &str| Logs::open(folder.join(name), 0).map_err(|error| error.to_string());
+    let (mut logs, mut others) = (open("log")?, open("other")?);
     let mut plain = Plain::open(&folder.join("plain.db")).map_err(|error| error.to_string())?;
     let mut sides = [Side::default(); 2];
     loop {
@@ -125,9 +151,12 @@ fn work(folder: &Path, until: &str, delay: &str) -> Result<(), String> {
         let side = (now.as_millis() / SLOT.as_millis() % 2) as usize;
         let began = Instant::now();
         let value = sides[side].writes;
-        let done = if side == 0 { logs.write(value) } else { plain.write(value) };
-        done.map_err(|error| error.to_string())?;
-        sides[side].add(began.elapsed());
+        let done = match (side, beside) {
+            (0, _) => logs.write(value).map(|()| 1),
+            (_, PLAIN) => plain.write(value).map(|()| 1),
+            _ => others.write_many(value),
+        };
+        sides[side].add(done.map_err(|error| error.to_string())?, began.elapsed());
     }
     let [store, plain] = sides;
     let micros = |side: Side| side.longest.as_micros();
@@ -137,22 +166,44 @@ fn work(folder: &Path, until: &str, delay: &str) -> Result<(), String> {
 
 /// Logs that rotate as they fill. All processes step for client 0, since only one client writes at a time.
 struct Logs {
-    folder: PathBuf,
+    /// Where they are, and how their names begin.
+    path: PathBuf,
     number: u64,
     store: Store,
 }
 
 impl Logs {
-    fn open(folder: &Path, number: u64) -> Result<Logs, Error> {
-        let store = open_store(&folder.join(format!("log-{number}.db")), 16, Capacity::Large)?;
-        Ok(Logs { folder: folder.into(), number, store })
+    fn open(path: PathBuf, number: u64) -> Result<Logs, Error> {
+        let mut file = path.clone().into_os_string();
+        file.push(format!("-{number}.db"));
+        let store = open_store(Path::new(&file), 16, Capacity::Large)?;
+        Ok(Logs { path, number, store })
+    }
+
+    fn next(&mut self) -> Result<(), Error> {
+        *self = Logs::open(self.path.clone(), self.number + 1)?;
+        Ok(())
+    }
+
+    /// Writes many in one request, and says how many were accepted: some are refused where a log gets full.
+    fn write_many(&mut self, first: u64) -> Result<u64, Error> {
+        let asked: Vec<Asked> = (first..first + MANY).map(|value| Change::Step(0, Step::write(value)).into()).collect();
+        loop {
+            let told = self.store.take_all(&asked)?;
+            match told[0] {
+                Ok(_) => return Ok(told.iter().filter(|told| told.is_ok()).count() as u64),
+                Err(Refusal::LogFull) => self.next()?,
+                Err(Refusal::DoesNotLead | Refusal::OtherStage) => self.lead()?,
+                Err(refusal) => return Err(refusal.into()),
+            }
+        }
     }
 
     fn write(&mut self, value: u64) -> Result<(), Error> {
         loop {
             match self.store.write(0, value) {
                 Ok(_) => return Ok(()),
-                Err(Error::Refused(Refusal::LogFull)) => *self = Logs::open(&self.folder, self.number + 1)?,
+                Err(Error::Refused(Refusal::LogFull)) => self.next()?,
                 Err(Error::Refused(Refusal::DoesNotLead | Refusal::OtherStage)) => self.lead()?,
                 Err(error) => return Err(error),
             }
@@ -162,10 +213,7 @@ impl Logs {
     /// Takes a step towards the first write, unless another process was faster.
     fn lead(&mut self) -> Result<(), Error> {
         let step = match self.store.latest()?.log().advise(0)? {
-            Some(Advice::Become) => Step::Become,
-            Some(Advice::Fetch) => Step::Fetch,
-            Some(Advice::Create) => Step::Create,
-            Some(Advice::Append) => Step::Append,
+            Some(kind @ (Kind::Become | Kind::Fetch | Kind::Create | Kind::Append)) => Step::new(kind, 0),
             _ => return Ok(()),
         };
         match self.store.take(0, step) {
@@ -211,7 +259,7 @@ impl Plain {
 fn proved_step() -> Duration {
     let mut log = Log::fresh(16).expect("sixteen clients");
     let rights = Rights::all(16).expect("sixteen clients");
-    for step in [Step::Become, Step::Fetch, Step::Create, Step::Append] {
+    for step in [Step::BECOME, Step::FETCH, Step::CREATE, Step::APPEND] {
         assert_eq!(log.take(0, step), Ok(Answer::Done));
     }
     let began = Instant::now();

@@ -1,7 +1,7 @@
 //! Writes values as a client by the advised steps, for tests with several processes: FILE CLIENT FIRST COUNT.
 //! Prints each value that is stored, with its entry number.
 
-use cindrolf::{Advice, Refusal, Step};
+use cindrolf::{Kind, Refusal, Step};
 use std::process::ExitCode;
 use store::{Error, Store};
 
@@ -24,10 +24,7 @@ fn write(file: &str, client: u64, values: std::ops::Range<u64>) -> Result<(), Er
     for value in values {
         let at = loop {
             let step = match store.latest()?.log().advise(client)? {
-                Some(Advice::Become) => Step::Become,
-                Some(Advice::Fetch) => Step::Fetch,
-                Some(Advice::Create) => Step::Create,
-                Some(Advice::Append) => Step::Append,
+                Some(kind @ (Kind::Become | Kind::Fetch | Kind::Create | Kind::Append)) => Step::new(kind, 0),
                 _ => break store.write(client, value)?,
             };
             // Another process of the same client may have been faster.

@@ -1,17 +1,19 @@
 //! The lanes of the picture: each step at its client, and each client's stage, in as many rows as the steps need.
 
-use super::shapes::{Area, Shapes, WIDTH};
+use super::shapes::{Area, Shapes, WIDTH, stage_room};
 use crate::frames::{Frame, Frames, Outcome};
 use crate::scene::{Change, Standing};
 
 /// Where the steps begin, beside the clients' names.
-const LEFT: i64 = 112;
+const LEFT: i64 = 104;
 const RIGHT: i64 = WIDTH - 12;
 /// A lane's height, that of a lane in which nothing happens, and those of its parts.
 const LANE: i64 = 76;
 const LOW: i64 = 28;
 const BOX: i64 = 38;
 const STAGE: i64 = 20;
+/// The least width of a step.
+const NARROWEST: i64 = 46;
 /// The most characters of a line that are drawn.
 const LONGEST: usize = 22;
 
@@ -36,12 +38,22 @@ fn shown(frame: &Frame) -> (String, &str) {
     (line, frame.reply.split(" place ").next().unwrap_or_default())
 }
 
-/// The steps in rows, each as wide as its text needs.
+/// How wide a step is: as its line, its reply and the words of the stages that begin with it need.
+fn width(frame: &Frame) -> i64 {
+    let (line, reply) = shown(frame);
+    let texts = line.chars().count().max(reply.len()) as i64 * 15 / 2 + 6;
+    let stages = frame.changes.iter().filter_map(|change| match change {
+        Change::Standing(_, _, to) => Some(stage_room(to.short(), to.classes())),
+        _ => None,
+    });
+    stages.fold(texts.max(NARROWEST), i64::max)
+}
+
+/// The steps in rows.
 fn rows(frames: &[Frame]) -> Vec<Vec<Column<'_>>> {
     let (mut rows, mut x) = (vec![Vec::new()], LEFT);
     for (place, frame) in (1..).zip(frames) {
-        let (line, reply) = shown(frame);
-        let width = (line.chars().count().max(reply.len()) as i64 * 8 + 8).max(46);
+        let width = width(frame);
         if x + width > RIGHT {
             rows.push(Vec::new());
             x = LEFT;

@@ -35,6 +35,13 @@ impl Area {
     }
 }
 
+/// The room that the word of a stage takes, with some around it, in the fonts that programs have for sans-serif. Where a
+/// client writes it is larger and bold.
+pub fn stage_room(word: &str, classes: &str) -> i64 {
+    let halves: i64 = word.chars().map(|letter| if "filrt ".contains(letter) { 7 } else { 13 }).sum();
+    if classes.starts_with("write") { halves * 2 / 3 + 8 } else { halves / 2 + 8 }
+}
+
 /// What is drawn so far.
 #[derive(Default)]
 pub struct Shapes(String);
@@ -111,7 +118,7 @@ impl Shapes {
                 let _ =
                     writeln!(self.0, "<rect class=\"page\" {} fill=\"#ffffff\" stroke=\"{fill}\"/>", area.attributes());
                 self.hatch(area, fill);
-                let plate = Area(x + 2, y + 2, word.len() as i64 * 8 + 4, height - 4);
+                let plate = Area(x + 2, y + 2, stage_room(word, classes), height - 4);
                 let _ = writeln!(self.0, "<rect class=\"page\" {} fill=\"#ffffff\"/>", plate.attributes());
                 let _ = writeln!(
                     self.0,

@@ -1,0 +1,298 @@
+//! The arguments: which subcommand, on which file, with what.
+
+use crate::failure::Failure;
+use crate::steps::Manner;
+use crate::traces::Drawing;
+use crate::{help, marks};
+use cindrolf::{CLIENT_LIMIT, CLIENT_NUMBER_LIMIT, Capacity, Kind, MarkName, Right};
+use limits::WAIT_LIMIT;
+use std::ffi::{OsStr, OsString};
+use std::os::unix::ffi::{OsStrExt, OsStringExt};
+use std::path::PathBuf;
+use std::time::Duration;
+use std::vec::IntoIter;
+use store::{LastRow, PATIENCE};
+
+/// What is to be done.
+#[derive(Debug, PartialEq, Eq)]
+pub enum Command {
+    Help(&'static str),
+    Version,
+    Session { file: Option<PathBuf> },
+    Total { file: Option<PathBuf> },
+    Trace { file: PathBuf, drawing: Drawing },
+    Create { file: PathBuf, clients: u64, capacity: Capacity },
+    Step { file: PathBuf, lines: Vec<Vec<u8>>, manner: Manner },
+    Show { file: PathBuf },
+    Chain { file: PathBuf, at: Option<MarkName> },
+    Advise { file: PathBuf, client: u64 },
+    Marks { file: PathBuf },
+    SetMark { file: PathBuf, name: MarkName },
+    DropMark { file: PathBuf, name: MarkName },
+    Grant { file: PathBuf, client: u64, right: Right },
+    Revoke { file: PathBuf, client: u64, right: Right },
+    Check { file: PathBuf, at: Option<LastRow> },
+    Copy { file: PathBuf, to: PathBuf },
+    Upgrade { file: PathBuf, to: PathBuf },
+    Schema,
+    Audit { file: PathBuf, once: bool },
+    Settle { file: PathBuf, request: u64 },
+}
+
+/// The command in these arguments.
+pub fn command(args: impl Iterator<Item = OsString>) -> Result<Command, Failure> {
+    let mut args: Vec<OsString> = args.collect();
+    if args.is_empty() {
+        return Err(Failure::Arguments(format!("there is no subcommand\n{}", help::OVERVIEW.trim_end())));
+    }
+    let name = args.remove(0);
+    let name = match &*name.to_string_lossy() {
+        "-h" | "--help" => return Ok(Command::Help(help::OVERVIEW)),
+        "--version" => return Ok(Command::Version),
+        name => name.to_owned(),
+    };
+    let help = help::of(&name).ok_or_else(|| unknown(&name))?;
+    // In a line of steps it is neither.
+    if args.first().is_some_and(|arg| arg == "-h" || arg == "--help") {
+        return Ok(Command::Help(help));
+    }
+    parse(&name, args).map_err(|wrong| Failure::Arguments(format!("{wrong}\n{}", help::usage(help))))
+}
+
+/// What is no subcommand, with the closest one.
+fn unknown(name: &str) -> Failure {
+    Failure::Arguments(if name.starts_with('-') {
+        format!("there is no option {name}\n{}", help::usage(help::OVERVIEW))
+    } else {
+        let closest = help::closest(name);
+        format!("there is no subcommand {name}; the closest one is {closest}\n{}", help::usage(help::OVERVIEW))
+    })
+}
+
+/// The options of a command, each with what its value is, where it has one.
+fn options(name: &str) -> &'static [(&'static str, &'static str)] {
+    match name {
+        "trace" => &[("--svg", ""), ("-o", "a file")],
+        "create" => &[("--small", "")],
+        "step" => &[("--explain", ""), ("--wait", "a number of seconds"), ("--witness", "a file")],
+        "chain" => &[("--at", "a name")],
+        "mark" => &[("--drop", "")],
+        "check" => &[("--at", "a row")],
+        "audit" => &[("--once", "")],
+        _ => &[],
+    }
+}
+
+fn parse(name: &str, args: Vec<OsString>) -> Result<Command, String> {
+    let mut words = Words::split(args, options(name))?;
+    match name {
+        "session" => return Ok(Command::Session { file: words.one_file()? }),
+        "total" => return Ok(Command::Total { file: words.one_file()? }),
+        "trace" => return words.trace(),
+        "schema" => return words.nothing().map(|()| Command::Schema),
+        _ => {}
+    }
+    let file = words.next("FILE")?.into();
+    let command = match name {
+        "create" => Command::Create { file, clients: words.clients()?, capacity: words.capacity() },
+        "step" => {
+            let manner = words.manner()?;
+            Command::Step { file, lines: words.rest(), manner }
+        }
+        "show" => Command::Show { file },
+        "chain" => Command::Chain { file, at: words.option("--at").map(|name| mark(&name)).transpose()? },
+        "advise" => Command::Advise { file, client: words.client()? },
+        "mark" => words.mark(file)?,
+        "grant" => Command::Grant { file, client: words.client()?, right: words.right()? },
+        "revoke" => Command::Revoke { file, client: words.client()?, right: words.right()? },
+        "check" => Command::Check { file, at: words.option("--at").map(|row| last_row(&row)).transpose()? },
+        "copy" => Command::Copy { file, to: words.next("TO")?.into() },
+        "audit" => Command::Audit { file, once: words.option("--once").is_some() },
+        "settle" => Command::Settle { file, request: words.request()? },
+        _ => Command::Upgrade { file, to: words.next("NEW")?.into() },
+    };
+    match words.words.next() {
+        Some(word) => Err(format!("{name} does not take '{}'", word.display())),
+        None => Ok(command),
+    }
+}
+
+/// The arguments of a command: the options that were given, with their values, and the others in their order.
+struct Words {
+    given: Vec<(&'static str, OsString)>,
+    words: IntoIter<OsString>,
+}
+
+impl Words {
+    /// Options may stand anywhere in front of `--`. Of one that is given twice the last counts.
+    fn split(args: Vec<OsString>, options: &[(&'static str, &'static str)]) -> Result<Self, String> {
+        let (mut given, mut words) = (Vec::new(), Vec::new());
+        let mut args = args.into_iter();
+        while let Some(arg) = args.next() {
+            let option = options.iter().find(|(option, _)| arg == *option);
+            if arg == "--" {
+                words.extend(args.by_ref());
+            } else if let Some(&(option, value)) = option {
+                let wanted = || format!("{option} wants {value} after it");
+                given.push((option, if value.is_empty() { arg } else { args.next().ok_or_else(wanted)? }));
+            } else if arg.len() > 1 && arg.as_bytes().starts_with(b"-") {
+                return Err(format!("there is no option {}", arg.display()));
+            } else {
+                words.push(arg);
+            }
+        }
+        Ok(Words { given, words: words.into_iter() })
+    }
+
+    /// The value of an option, or its name where it has none, if it was given.
+    fn option(&self, name: &str) -> Option<OsString> {
+        self.given.iter().rfind(|(option, _)| *option == name).map(|(_, value)| value.clone())
+    }
+
+    fn manner(&self) -> Result<Manner, String> {
+        let explain = self.option("--explain").is_some();
+        let witness = self.option("--witness").map(PathBuf::from);
+        let Some(text) = self.option("--wait") else { return Ok(Manner { explain, wait: PATIENCE, witness }) };
+        let seconds = session::number(text.as_bytes(), WAIT_LIMIT);
+        let seconds = seconds.ok_or(format!("SECONDS is 0 to {WAIT_LIMIT}, not '{}'", text.display()))?;
+        Ok(Manner { explain, wait: Duration::from_secs(seconds), witness })
+    }
+
+    fn next(&mut self, what: &str) -> Result<OsString, String> {
+        self.words.next().filter(|word| !word.is_empty()).ok_or(format!("{what} is missing"))
+    }
+
+    /// The one file that there may be.
+    fn one_file(&mut self) -> Result<Option<PathBuf>, String> {
+        match self.words.len() {
+            0 | 1 => Ok(self.words.next().map(PathBuf::from)),
+            count => Err(format!("one FILE, not {count}")),
+        }
+    }
+
+    fn trace(&mut self) -> Result<Command, String> {
+        let page = self.option("-o").map(PathBuf::from);
+        if page.as_ref().is_some_and(|page| page.as_os_str().is_empty()) {
+            return Err("-o wants a file after it".into());
+        }
+        let file = self.one_file()?.ok_or("one FILE, not 0")?;
+        Ok(Command::Trace { file, drawing: Drawing { page, svg: self.option("--svg").is_some() } })
+    }
+
+    fn nothing(&mut self) -> Result<(), String> {
+        self.words.next().map_or(Ok(()), |word| Err(format!("it does not take '{}'", word.display())))
+    }
+
+    fn request(&mut self) -> Result<u64, String> {
+        let text = self.next("REQUEST")?;
+        let request = session::number(text.as_bytes(), u64::MAX);
+        request.ok_or(format!("REQUEST is an id as the message has it, not '{}'", text.display()))
+    }
+
+    fn rest(&mut self) -> Vec<Vec<u8>> {
+        self.words.by_ref().map(OsString::into_vec).collect()
+    }
+
+    fn capacity(&self) -> Capacity {
+        if self.option("--small").is_some() { Capacity::Small } else { Capacity::Large }
+    }
+
+    fn clients(&mut self) -> Result<u64, String> {
+        let text = self.next("CLIENTS")?;
+        let clients = session::number(text.as_bytes(), CLIENT_LIMIT).filter(|&clients| clients > 0);
+        clients.ok_or(format!("CLIENTS is 1 to {CLIENT_LIMIT}, not '{}'", text.display()))
+    }
+
+    fn client(&mut self) -> Result<u64, String> {
+        let text = self.next("CLIENT")?;
+        session::number(text.as_bytes(), CLIENT_NUMBER_LIMIT)
+            .ok_or(format!("CLIENT is a number from 0, not '{}'", text.display()))
+    }
+
+    fn right(&mut self) -> Result<Right, String> {
+        let text = self.next("STEP")?;
+        let letter = text.to_str().and_then(|text| text.parse().ok());
+        let letters = Kind::ALL.map(|kind| kind.letter().to_string()).join(" ");
+        letter.and_then(Kind::from_letter).ok_or(format!("STEP is one of {letters}, not '{}'", text.display()))
+    }
+
+    /// With a name it sets or drops that mark, else it lists them.
+    fn mark(&mut self, file: PathBuf) -> Result<Command, String> {
+        match (self.words.next(), self.option("--drop")) {
+            (Some(name), None) => Ok(Command::SetMark { file, name: mark(&name)? }),
+            (Some(name), Some(_)) => Ok(Command::DropMark { file, name: mark(&name)? }),
+            (None, None) => Ok(Command::Marks { file }),
+            (None, Some(_)) => Err("NAME is missing".into()),
+        }
+    }
+}
+
+fn mark(name: &OsStr) -> Result<MarkName, String> {
+    marks::name(name.as_bytes()).ok_or(format!("NAME has 1 to 8 bytes, and '{}' has {}", name.display(), name.len()))
+}
+
+fn last_row(text: &OsStr) -> Result<LastRow, String> {
+    let row = text.to_str().and_then(|text| text.parse().ok());
+    row.ok_or(format!("N:CHAIN is as show and check print it, not '{}'", text.display()))
+}
+
+#[cfg(test)]
+mod tests {
+    use super::*;
+
+    fn parsed(args: &str) -> Result<Command, String> {
+        command(args.split(' ').map(OsString::from)).map_err(|failure| match failure {
+            Failure::Arguments(text) => text,
+            _ => panic!("another failure"),
+        })
+    }
+
+    #[test]
+    fn options_anywhere() {
+        let small = || Ok(Command::Create { file: "f".into(), clients: 2, capacity: Capacity::Small });
+        for args in ["create --small f 2", "create f --small 2", "create f 2 --small", "create --small -- f 2"] {
+            assert_eq!(parsed(args), small(), "{args}");
+        }
+        assert_eq!(parsed("show -- --small"), Ok(Command::Show { file: "--small".into() }));
+        assert_eq!(parsed("show -"), Ok(Command::Show { file: "-".into() }));
+        let manner = || Manner { explain: true, wait: Duration::from_secs(7), witness: Some("w".into()) };
+        for args in [
+            "step --explain --wait 7 f W --witness w",
+            "step --witness w --wait 7 f W --explain",
+            "step f --wait 5 W --wait 7 --explain --witness w",
+        ] {
+            assert_eq!(
+                parsed(args),
+                Ok(Command::Step { file: "f".into(), lines: vec![b"W".to_vec()], manner: manner() }),
+                "{args}"
+            );
+        }
+        assert_eq!(parsed("chain f --at -x"), Ok(Command::Chain { file: "f".into(), at: marks::name(b"-x") }));
+    }
+
+    #[test]
+    fn pages_and_pictures() {
+        let drawn = |page: Option<&str>, svg| Command::Trace {
+            file: "a".into(),
+            drawing: Drawing { page: page.map(PathBuf::from), svg },
+        };
+        assert_eq!(parsed("trace a"), Ok(drawn(None, false)));
+        assert_eq!(parsed("trace --svg a"), Ok(drawn(None, true)));
+        assert_eq!(parsed("trace a -o -b"), Ok(drawn(Some("-b"), false)));
+        for (args, wrong) in
+            [("trace", "one FILE, not 0"), ("trace a b", "one FILE, not 2"), ("trace a -o", "-o wants a file")]
+        {
+            assert!(parsed(args).unwrap_err().starts_with(wrong), "{args}");
+        }
+        assert_eq!(parsed("session -- -a"), Ok(Command::Session { file: Some("-a".into()) }));
+        assert_eq!(parsed("total"), Ok(Command::Total { file: None }));
+    }
+
+    #[test]
+    fn every_command_has_its_usage() {
+        for name in "create step show chain advise mark grant revoke check copy".split(' ') {
+            let text = parsed(name).unwrap_err();
+            assert!(text.starts_with(&format!("FILE is missing\nusage: cindrolf {name} ")), "{text}");
+        }
+    }
+}

@@ -1,0 +1,47 @@
+//! The check of a file: that it holds together, its last row, and of which files the log is made now.
+
+use crate::failure::Failure;
+use crate::given;
+use std::path::{Path, PathBuf};
+use std::process::ExitCode;
+use store::{Checked, Error, LastRow, Store, WrongAnswer};
+
+/// Prints that the file holds together, with the last row, and what to copy. Where a row is given, the log has to have it.
+/// Stored answers that are not the log's are named; the log itself holds together with them.
+pub fn check(file: &Path, at: Option<LastRow>) -> Result<ExitCode, Failure> {
+    let opened = Store::open(file).map_err(|error| Failure::of_reading(file, error));
+    let mut store = opened?;
+    let (last, wrong) = checked(&mut store, at).map_err(|error| Failure::of_reading(file, error))?;
+    // Closing it makes one file of the log, where no other process uses it.
+    drop(store);
+    let rows = if last.number == 1 { "1 row".into() } else { format!("{} rows", last.number) };
+    let found = if wrong.is_empty() { "ok" } else { "the log is whole, and answers stored in it are wrong" };
+    let wrong_lines: String = wrong.iter().map(|wrong| format!("{wrong}\n")).collect();
+    crate::print(&format!("{found}, {rows}\n{wrong_lines}last row {last}\n{}\n", files(file)))?;
+    Ok(if wrong.is_empty() { ExitCode::SUCCESS } else { ExitCode::FAILURE })
+}
+
+fn checked(store: &mut Store, at: Option<LastRow>) -> Result<(LastRow, Vec<WrongAnswer>), Error> {
+    let Checked { rows, wrong } = store.check()?;
+    if let Some(row) = at {
+        store.has_row(row)?;
+    }
+    let last = store.row(rows)?.ok_or_else(|| Error::Damaged(format!("row {rows} of its journal is missing")))?;
+    Ok((last, wrong))
+}
+
+/// Whether the log is one file. Where the write-ahead log stays after closing, another process uses it.
+fn files(file: &Path) -> String {
+    if given::is_address(file) {
+        return format!("on a server: to copy the log, use 'cindrolf copy {} TO'", file.display());
+    }
+    // SQLite keeps its files beside the one that a symbolic link leads to.
+    let mut beside = file.canonicalize().unwrap_or(file.into()).into_os_string();
+    beside.push("-wal");
+    let file = file.display();
+    if PathBuf::from(beside).exists() {
+        format!("three files: {file}, {file}-wal and {file}-shm; to copy the log, use 'cindrolf copy {file} TO'")
+    } else {
+        format!("one file: to copy the log, copy {file}")
+    }
+}

@@ -1,0 +1,316 @@
+//! The process's own copy of a log: what the proved library makes of its rows, from the fresh log on.
+//!
+//! A copy that is many rows short gathers their steps and has the library run them as a plan: the buffers are checked
+//! once for all of them, and a row costs some 8 ns in place of a microsecond. A plan does not tell the answer to each
+//! step. So the entries that it has made are compared with what the rows say of them, and if these differ, the steps
+//! are taken once more, one by one. Few rows, one's own request and every row of a check are taken singly.
+//!
+//! A row that the library refuses in its place changes nothing, and is no damage. A stored answer that is not the
+//! library's is reported, and stops nobody: one wrong process would end the log for all, since no row is taken back.
+
+use crate::request::{Change, Known, Told, number_of, reply};
+use crate::{CLIENT_ROW_LIMIT, Error, OTHER_ROW_LIMIT};
+use cindrolf::{
+    Answer, CLIENT_LIMIT, Capacity, Log, LogMut, LogRef, MARK_WORDS, Refusal, Rights, StepWord, client_of, value_of,
+};
+
+/// A row as an engine gives it.
+pub(crate) struct Row {
+    /// The id of its request.
+    pub id: u64,
+    /// Which step of the request it is, from 0.
+    pub index: u64,
+    pub change: Change,
+    /// The rows up to this one.
+    pub known: Known,
+    /// The answer that is stored with it, and the value of a write of scores.
+    pub told: Option<Stamp>,
+}
+
+/// What is stored of a row's answer: its number, and the value that a write of scores has stored.
+#[derive(Clone, Copy, Debug, PartialEq, Eq)]
+pub(crate) struct Stamp {
+    pub answer: u64,
+    pub value: Option<u64>,
+}
+
+/// A stored answer that is not what the log gives.
+#[derive(Clone, Debug, PartialEq, Eq)]
+pub(crate) struct Wrong {
+    pub row: i64,
+    pub stored: String,
+    pub replayed: String,
+}
+
+/// How many rows are taken as a plan, and not singly.
+const PLAN_FROM: usize = 16;
+
+/// The words of a log, its marks and its rights, as its rows leave them.
+#[derive(Clone, Debug, PartialEq, Eq)]
+pub(crate) struct Replica {
+    state: Vec<u64>,
+    entries: Vec<u64>,
+    pub marks: [u64; MARK_WORDS],
+    pub rights: Rights,
+    pub known: Known,
+    /// How many rows each client has, and after these how many there are of marks and rights.
+    counts: [u32; CLIENT_LIMIT as usize + 1],
+    /// The highest start number in an id.
+    pub last_start: u32,
+}
+
+impl Replica {
+    /// A fresh log, without marks, in which each client has every right.
+    pub fn fresh(client_count: u64, capacity: Capacity) -> Result<Self, cindrolf::Error> {
+        let log = Log::fresh_with(client_count, capacity)?;
+        Ok(Replica {
+            state: log.state().to_vec(),
+            entries: log.entries().to_vec(),
+            marks: [0; MARK_WORDS],
+            rights: Rights::all(client_count)?,
+            known: Known::fresh(client_count, capacity),
+            counts: [0; CLIENT_LIMIT as usize + 1],
+            last_start: 0,
+        })
+    }
+
+    pub fn log(&self) -> LogRef<'_> {
+        LogRef::new(&self.state, &self.entries)
+    }
+
+    /// Takes a step, and says how it is answered.
+    pub fn take(&mut self, change: &Change) -> Result<Told, Error> {
+        let mut log = LogMut::new(&mut self.state, &mut self.entries);
+        let answer = match change {
+            Change::Step(client, step) => log.under(&self.rights).take(*client, *step),
+            Change::WriteScores(client, scores) => {
+                log.under(&self.rights).write_scores(*client, scores).map(Answer::from)
+            }
+            Change::SetMark(name) => log.as_ref().set_mark(&mut self.marks, *name).map(Answer::from),
+            Change::DropMark(name) => log.as_ref().drop_mark(&mut self.marks, *name).map(Answer::from),
+            &Change::SetRights(client, word) => self.set_rights(client, word).map(Answer::from),
+        };
+        match answer {
+            Ok(answer) => Ok(Ok(answer)),
+            Err(cindrolf::Error::Refused(refusal)) => Ok(Err(refusal)),
+            Err(error) => Err(Error::Library(error)),
+        }
+    }
+
+    /// Gives a client other rights from now on. Those that are not of this log are refused by 2, as a step under them
+    /// would be.
+    fn set_rights(&mut self, client: u64, word: u64) -> Result<(), cindrolf::Error> {
+        let mut words = *self.rights.words();
+        let place = usize::try_from(client).ok().and_then(|client| words.get_mut(client));
+        *place.ok_or(Refusal::UnknownClient)? = word;
+        let rights = Rights::from_words(words);
+        self.fits(&rights)?;
+        self.rights = rights;
+        Ok(())
+    }
+
+    /// Whether these rights are well formed for this log.
+    pub fn fits(&self, rights: &Rights) -> Result<(), cindrolf::Error> {
+        // No log has this client: the step is refused by 3 where the rights are well formed, and else before that.
+        let (mut state, mut entries) = (self.state.clone(), self.entries.clone());
+        match LogMut::new(&mut state, &mut entries).under(rights).name(u64::MAX) {
+            Err(cindrolf::Error::Refused(Refusal::UnknownClient)) => Ok(()),
+            refused => refused,
+        }
+    }
+
+    /// What is stored of an answer, straight after the step was taken.
+    pub fn stamp(&self, change: &Change, told: Told) -> Stamp {
+        let value = match (change, told) {
+            (Change::WriteScores(..), Ok(Answer::Stored(at))) => Some(value_of(self.entries[at.number.0 as usize])),
+            _ => None,
+        };
+        Stamp { answer: number_of(told), value }
+    }
+
+    /// Takes steps one after the other, says how each is answered, and takes them back.
+    pub fn attempt<'a>(&mut self, changes: impl Iterator<Item = &'a Change>) -> Result<Vec<(Told, Stamp)>, Error> {
+        let (state, marks, rights) = (self.state.clone(), self.marks, self.rights);
+        let first = self.entry_count();
+        let taken: Result<Vec<_>, Error> = changes
+            .map(|change| {
+                let told = self.take(change)?;
+                Ok((told, self.stamp(change, told)))
+            })
+            .collect();
+        let last = self.entry_count();
+        // A step changes no entry but the one that it adds, and a word that holds none is zero.
+        self.entries[first..last].fill(0);
+        (self.state, self.marks, self.rights) = (state, marks, rights);
+        taken
+    }
+
+    /// The rows of a request whose steps were taken are known.
+    pub fn count(&mut self, id: u64, index: u64, change: &Change) {
+        self.known = self.known.and(id, index, change);
+        self.note(id, change);
+    }
+
+    fn note(&mut self, id: u64, change: &Change) {
+        self.counts[slot(change)] += 1;
+        self.last_start = self.last_start.max((id >> 32) as u32);
+    }
+
+    /// Whether there is room for the rows of a request. No client takes that of the others.
+    pub fn room<'a>(&self, changes: impl Iterator<Item = &'a Change>) -> Result<(), Error> {
+        let mut counts = self.counts;
+        for change in changes {
+            let slot = slot(change);
+            counts[slot] += 1;
+            let (limit, client) = match slot as u64 {
+                CLIENT_LIMIT => (OTHER_ROW_LIMIT, None),
+                client => (CLIENT_ROW_LIMIT, Some(client)),
+            };
+            if counts[slot] > limit {
+                return Err(Error::JournalFull(client));
+            }
+        }
+        Ok(())
+    }
+
+    fn entry_count(&self) -> usize {
+        // The library keeps the buffers well formed, so that there is a view.
+        self.log().view().map_or(0, |view| view.entry_count() as usize)
+    }
+}
+
+/// Where the rows of a step are counted. Only a step of a client of some log is its own.
+fn slot(change: &Change) -> usize {
+    match change {
+        Change::Step(client, _) | Change::WriteScores(client, _) => CLIENT_LIMIT.min(*client) as usize,
+        Change::SetMark(_) | Change::DropMark(_) | Change::SetRights(..) => CLIENT_LIMIT as usize,
+    }
+}
+
+/// Has a copy follow rows, one after the other.
+pub(crate) struct Follower<'a> {
+    replica: &'a mut Replica,
+    /// Whether steps are gathered, and run as plans.
+    gathers: bool,
+    words: Vec<StepWord>,
+    stamps: Vec<Option<Stamp>>,
+    /// The stored answers that are not those of the log.
+    wrong: Vec<Wrong>,
+}
+
+impl<'a> Follower<'a> {
+    pub fn new(replica: &'a mut Replica) -> Self {
+        Follower { replica, gathers: true, words: Vec::new(), stamps: Vec::new(), wrong: Vec::new() }
+    }
+
+    /// One that takes every row singly, so that every answer is compared.
+    pub fn one_by_one(replica: &'a mut Replica) -> Self {
+        Follower { gathers: false, ..Follower::new(replica) }
+    }
+
+    /// The rows that are known, those that are gathered among them.
+    pub fn known(&self) -> Known {
+        self.replica.known
+    }
+
+    /// Goes on by a row, which has to be the next one.
+    pub fn row(&mut self, row: Row) -> Result<(), Error> {
+        let next = self.replica.known.and(row.id, row.index, &row.change);
+        if row.known.rows != next.rows {
+            return Err(Error::Damaged(format!("row {} of its journal is missing", next.rows)));
+        }
+        if next.rows > crate::ROW_LIMIT {
+            return Err(Error::Damaged(format!("its journal has more than {} rows", crate::ROW_LIMIT)));
+        }
+        if row.known.chain != next.chain {
+            return Err(Error::Damaged(format!("row {} of its journal was changed", next.rows)));
+        }
+        match row.change.word().filter(|_| self.gathers) {
+            Some(word) => {
+                self.words.push(word);
+                self.stamps.push(row.told);
+            }
+            None => {
+                self.flush()?;
+                self.single(next.rows, &row.change, row.told)?;
+            }
+        }
+        self.replica.known = next;
+        self.replica.note(row.id, &row.change);
+        Ok(())
+    }
+
+    /// Takes what is gathered, and gives the stored answers that are wrong.
+    pub fn finish(mut self) -> Result<Vec<Wrong>, Error> {
+        self.flush()?;
+        Ok(self.wrong)
+    }
+
+    fn flush(&mut self) -> Result<(), Error> {
+        let (words, stamps) = (std::mem::take(&mut self.words), std::mem::take(&mut self.stamps));
+        let last = self.replica.known.rows;
+        if words.len() >= PLAN_FROM && self.run(&words, &stamps) {
+            return Ok(());
+        }
+        for (row, (word, stamp)) in (last + 1 - words.len() as i64..).zip(words.iter().zip(stamps)) {
+            let step = word.step().expect("a word that was made of a step");
+            self.single(row, &Change::Step(word.client(), step), stamp)?;
+        }
+        Ok(())
+    }
+
+    /// Runs a plan, and says whether it came to the entries that the rows tell of. If not, nothing has changed.
+    fn run(&mut self, plan: &[StepWord], stamps: &[Option<Stamp>]) -> bool {
+        let before = (self.replica.state.clone(), self.replica.entries.clone());
+        let first = self.replica.entry_count();
+        let Replica { state, entries, rights, .. } = &mut *self.replica;
+        LogMut::new(state, entries).run_plan(rights, plan, plan.len() as u64);
+        // A server's rows have no answers.
+        let agrees = stamps.iter().all(Option::is_none) || self.agrees(first, plan, stamps);
+        if !agrees {
+            (self.replica.state, self.replica.entries) = before;
+        }
+        agrees
+    }
+
+    /// Whether the entries from the first new one on are those that the rows tell of, each with its place.
+    fn agrees(&self, first: usize, plan: &[StepWord], stamps: &[Option<Stamp>]) -> bool {
+        let entries = &self.replica.entries;
+        let mut places = [0; 256];
+        for &entry in &entries[..first] {
+            places[(entry >> 56) as usize] += 1;
+        }
+        let mut next = first;
+        for (word, stamp) in plan.iter().zip(stamps) {
+            let Some(stamp) = stamp else { return false };
+            if stamp.answer >> 32 != 1 {
+                continue;
+            }
+            let Some(&entry) = entries.get(next) else { return false };
+            let place = &mut places[(entry >> 56) as usize];
+            let same = client_of(entry) == word.client() && value_of(entry) == value_of(word.0);
+            if !same || stamp.answer != (1 << 32) + ((next as u64) << 16) + *place {
+                return false;
+            }
+            (*place, next) = (*place + 1, next + 1);
+        }
+        next == self.replica.entry_count()
+    }
+
+    /// Takes a row's step, and compares its answer.
+    fn single(&mut self, row: i64, change: &Change, stored: Option<Stamp>) -> Result<(), Error> {
+        let told = self.replica.take(change)?;
+        let given = self.replica.stamp(change, told);
+        if let Some(stored) = stored.filter(|&stored| stored != given) {
+            self.wrong.push(Wrong { row, stored: text(stored), replayed: text(given) });
+        }
+        Ok(())
+    }
+}
+
+fn text(stamp: Stamp) -> String {
+    match stamp.value {
+        Some(value) => format!("{} value {value}", reply(stamp.answer)),
+        None => reply(stamp.answer),
+    }
+}
