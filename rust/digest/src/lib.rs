@@ -1,5 +1,8 @@
 //! SHA-256, as FIPS 180-4 defines it.
 
+#[cfg(target_arch = "x86_64")]
+mod instructions;
+
 /// The first 64 primes, from whose roots the constants come.
 const PRIMES: [u64; 64] = primes();
 
@@ -45,6 +48,15 @@ const fn root_bits(power: u32) -> [u32; 64] {
 }
 
 fn compress(state: &mut [u32; 8], block: &[u8; 64]) {
+    #[cfg(target_arch = "x86_64")]
+    if instructions::are_there() {
+        // SAFETY: the processor has them.
+        return unsafe { instructions::compress(state, block) };
+    }
+    compress_anywhere(state, block);
+}
+
+fn compress_anywhere(state: &mut [u32; 8], block: &[u8; 64]) {
     let mut words = [0; 64];
     for (word, bytes) in words.iter_mut().zip(block.as_chunks().0) {
         *word = u32::from_be_bytes(*bytes);
@@ -108,6 +120,19 @@ mod tests {
         assert_eq!(hex(&sha256(two_blocks)), "248d6a61d20638b8e5c026930c3e6039a33ce45964ff2167f6ecedd419db06c1");
         let million = vec![b'a'; 1_000_000];
         assert_eq!(hex(&sha256(&million)), "cdc76e5c9914fb9281a1c7e284d73e67f1809a48a497200e046d39ccc7112cd0");
+    }
+
+    // With the processor's instructions, where it has them, and without: the same, from any state and for any block.
+    #[test]
+    fn both_ways() {
+        let mut state: [u32; 8] = *ROOTS.first_chunk().expect("eight of 64");
+        let mut other = state;
+        for round in 0..1_000u32 {
+            let block = std::array::from_fn(|at| (round.wrapping_mul(0x9E37_79B9).rotate_left(at as u32) >> 11) as u8);
+            compress(&mut state, &block);
+            compress_anywhere(&mut other, &block);
+            assert_eq!(state, other, "round {round}");
+        }
     }
 
     // Lengths about the end of a block, by the digest of their digests, as Python's hashlib gives it.

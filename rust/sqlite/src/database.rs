@@ -183,13 +183,23 @@ impl Database {
 
     /// Whether the file's name leads to another file than this connection has open, or to none.
     pub fn moved(&self) -> Result<bool, Fault> {
-        let mut moved: c_int = 0;
-        let address = (&raw mut moved).cast();
-        // SAFETY: the connection is open, and this operation sets a number.
-        let code =
-            unsafe { sqlite::sqlite3_file_control(self.0.connection, MAIN.as_ptr(), sqlite::FCNTL_HAS_MOVED, address) };
+        self.asked(sqlite::FCNTL_HAS_MOVED).map(|moved| moved != 0)
+    }
+
+    /// The version of the content that this connection's last transaction has read or written. Where another one has the
+    /// same, this connection has seen no commit in between, its own among them: every row is as it was.
+    pub fn version(&self) -> Result<c_int, Fault> {
+        self.asked(sqlite::FCNTL_DATA_VERSION)
+    }
+
+    /// The number that SQLite answers to a question about the file.
+    fn asked(&self, question: c_int) -> Result<c_int, Fault> {
+        let mut answer: c_int = 0;
+        let address = (&raw mut answer).cast();
+        // SAFETY: the connection is open, and each of these questions sets a number.
+        let code = unsafe { sqlite::sqlite3_file_control(self.0.connection, MAIN.as_ptr(), question, address) };
         self.0.checked(code)?;
-        Ok(moved != 0)
+        Ok(answer)
     }
 
     /// How many rows the last statement that inserts has inserted.

@@ -10,4 +10,4 @@ pub use database::{Database, Mode, Row, Statement, Value};
 pub use fault::Fault;
 pub use linked::fit;
 pub use raw::{BUSY, CANTOPEN, CORRUPT, FULL, IOERR, IOERR_VNODE, IOERR_WRITE, NOTADB, PERM, READONLY, TOOBIG};
-pub use wait::{end_waiting, is_ending};
+pub use wait::{end_waiting, is_ending, patience_now};

@@ -57,6 +57,7 @@ pub const DBCONFIG_DEFENSIVE: c_int = 1010;
 pub const DBCONFIG_ENABLE_VIEW: c_int = 1015;
 pub const LIMIT_LENGTH: c_int = 0;
 pub const FCNTL_HAS_MOVED: c_int = 20;
+pub const FCNTL_DATA_VERSION: c_int = 35;
 pub const STMTSTATUS_REPREPARE: c_int = 5;
 pub const CHECKPOINT_PASSIVE: c_int = 0;
 

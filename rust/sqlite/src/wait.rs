@@ -31,6 +31,11 @@ pub fn is_ending() -> bool {
     ENDING.load(Ordering::Relaxed)
 }
 
+/// How long a call waits now whose patience this is.
+pub fn patience_now(patience: Duration) -> Duration {
+    if is_ending() { patience.min(LAST) } else { patience }
+}
+
 /// Tries again after a random time, until its patience is over. SQLite's own handler sleeps up to 100 ms at a time, so
 /// that with sixteen processes some got no write in a second.
 pub struct Wait {
@@ -69,7 +74,7 @@ impl Wait {
     }
 
     fn patience_now(&self) -> Duration {
-        if is_ending() { self.patience.min(LAST) } else { self.patience }
+        patience_now(self.patience)
     }
 
     fn pause(&mut self) -> Duration {

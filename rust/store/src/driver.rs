@@ -7,7 +7,7 @@
 
 use crate::check::WrongAnswer;
 use crate::engine::{Appended, Engine, Request};
-use crate::replica::{Replica, Stamp};
+use crate::replica::{Replica, Tried};
 use crate::request::{Asked, Told};
 use crate::{Error, Known};
 use cindrolf::sharing::{Act, Phase, Seen, decide, request_id};
@@ -39,9 +39,11 @@ pub(crate) struct Driver<E> {
 #[derive(Default)]
 struct Work {
     asked: Vec<Asked>,
-    told: Vec<Told>,
-    stamps: Vec<Stamp>,
+    tried: Option<Tried>,
     id: u64,
+    /// The rows that are known after each of its steps, where these come straight after those that the copy had when it
+    /// was appended.
+    after: Vec<Known>,
     /// Whether anything of it was sent.
     sent: bool,
     /// Why nothing is known of it.
@@ -126,8 +128,8 @@ impl<E: Engine> Driver<E> {
                     seen => seen?,
                 },
                 Act::Append => self.append(&mut work, deadline)?,
-                Act::Tell => return self.tell(&work),
-                Act::Refuse => return Ok(work.told),
+                Act::Tell => return self.tell(&mut work),
+                Act::Refuse => return Ok(work.tried.map_or_else(Vec::new, |tried| tried.told)),
                 // What never left this process is not stored, and never will be.
                 Act::Unknown if !work.sent => return Err(Error::Unreachable(work.why)),
                 Act::Unknown => return Err(Error::Unknown { request: work.id, why: work.why }),
@@ -140,7 +142,15 @@ impl<E: Engine> Driver<E> {
     }
 
     fn append(&mut self, work: &mut Work, deadline: Instant) -> Result<Seen, Error> {
-        let request = Request { id: work.id, asked: &work.asked, stamps: &work.stamps };
+        let steps = (0..).zip(&work.asked);
+        work.after = steps
+            .scan(self.replica.known, |known, (index, asked)| {
+                *known = known.and(work.id, index, &asked.change);
+                Some(*known)
+            })
+            .collect();
+        let stamps = work.tried.as_ref().map_or(&[][..], |tried| &tried.stamps);
+        let request = Request { id: work.id, asked: &work.asked, stamps, after: &work.after };
         Ok(match self.engine.append(self.replica.known, &request)? {
             Appended::Placed(place) => {
                 work.sent = true;
@@ -177,9 +187,8 @@ impl<E: Engine> Driver<E> {
     /// Whether each step is refused by the copy as it is now.
     fn refused(&mut self, wish: &Wish<'_>, work: &mut Work) -> Result<bool, Error> {
         work.asked = wish(&self.replica)?;
-        let taken = self.replica.attempt(work.asked.iter().map(|asked| &asked.change))?;
-        (work.told, work.stamps) = taken.into_iter().unzip();
-        Ok(work.told.iter().all(Result::is_err))
+        let tried = self.replica.attempt(work.asked.iter().map(|asked| &asked.change))?;
+        Ok(work.tried.insert(tried).told.iter().all(Result::is_err))
     }
 
     /// An id that no request had, or 0.
@@ -192,8 +201,16 @@ impl<E: Engine> Driver<E> {
         Ok(request_id(start, self.requests - 1))
     }
 
-    /// Takes the steps on the copy for good.
-    fn tell(&mut self, work: &Work) -> Result<Vec<Told>, Error> {
+    /// Takes the steps on the copy for good. Where the copy has the same rows as when they were tried, that is done.
+    fn tell(&mut self, work: &mut Work) -> Result<Vec<Told>, Error> {
+        if let Some(tried) = work.tried.as_mut()
+            && self.replica.adopt(tried)
+        {
+            for (known, asked) in work.after.iter().zip(&work.asked) {
+                self.replica.count_as(*known, work.id, &asked.change);
+            }
+            return Ok(std::mem::take(&mut tried.told));
+        }
         let each = (0..).zip(&work.asked).map(|(index, asked)| {
             let told = self.replica.take(&asked.change)?;
             self.replica.count(work.id, index, &asked.change);

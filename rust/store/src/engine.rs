@@ -12,6 +12,8 @@ pub(crate) struct Request<'a> {
     pub asked: &'a [Asked],
     /// What is stored of each answer, if the rows come straight after those that are known.
     pub stamps: &'a [Stamp],
+    /// The rows that are known after each step, then.
+    pub after: &'a [Known],
 }
 
 /// Keeps the rows of a log, and adds to them at their end.

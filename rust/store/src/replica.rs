@@ -5,6 +5,9 @@
 //! step. So the entries that it has made are compared with what the rows say of them, and if these differ, the steps
 //! are taken once more, one by one. Few rows, one's own request and every row of a check are taken singly.
 //!
+//! One's own request is taken before its rows are stored, and taken back. What it had made of the copy is kept: where its
+//! rows come straight after those that the copy has, that is what they make of it, and nothing is taken a second time.
+//!
 //! A row that the library refuses in its place changes nothing, and is no damage. A stored answer that is not the
 //! library's is reported, and stops nobody: one wrong process would end the log for all, since no row is taken back.
 
@@ -34,6 +37,13 @@ pub(crate) struct Stamp {
     pub value: Option<u64>,
 }
 
+impl Stamp {
+    /// Whether the answer is the place of an entry.
+    fn is_entry(self) -> bool {
+        self.answer >> 32 == 1
+    }
+}
+
 /// A stored answer that is not what the log gives.
 #[derive(Clone, Debug, PartialEq, Eq)]
 pub(crate) struct Wrong {
@@ -42,8 +52,26 @@ pub(crate) struct Wrong {
     pub replayed: String,
 }
 
+/// What steps had made of a copy before they were taken back.
+#[derive(Clone, Debug)]
+pub(crate) struct Tried {
+    /// The rows that the copy was made of.
+    known: Known,
+    state: Vec<u64>,
+    /// The entries that they had added.
+    added: Vec<u64>,
+    marks: [u64; MARK_WORDS],
+    rights: Rights,
+    /// How each step was answered, and what is stored of that.
+    pub told: Vec<Told>,
+    pub stamps: Vec<Stamp>,
+}
+
 /// How many rows are taken as a plan, and not singly.
 const PLAN_FROM: usize = 16;
+
+/// How many, where each is a write that was accepted: then what is compared with the entries is all of each answer.
+const PLAN_OF_WRITES_FROM: usize = 4;
 
 /// The words of a log, its marks and its rights, as its rows leave them.
 #[derive(Clone, Debug, PartialEq, Eq)]
@@ -128,8 +156,8 @@ impl Replica {
         Stamp { answer: number_of(told), value }
     }
 
-    /// Takes steps one after the other, says how each is answered, and takes them back.
-    pub fn attempt<'a>(&mut self, changes: impl Iterator<Item = &'a Change>) -> Result<Vec<(Told, Stamp)>, Error> {
+    /// Takes steps one after the other, takes them back, and gives what they had come to.
+    pub fn attempt<'a>(&mut self, changes: impl Iterator<Item = &'a Change>) -> Result<Tried, Error> {
         let (state, marks, rights) = (self.state.clone(), self.marks, self.rights);
         let first = self.entry_count();
         let taken: Result<Vec<_>, Error> = changes
@@ -138,16 +166,36 @@ impl Replica {
                 Ok((told, self.stamp(change, told)))
             })
             .collect();
-        let last = self.entry_count();
         // A step changes no entry but the one that it adds, and a word that holds none is zero.
-        self.entries[first..last].fill(0);
-        (self.state, self.marks, self.rights) = (state, marks, rights);
-        taken
+        let used = first..self.entry_count();
+        let added = self.entries[used.clone()].to_vec();
+        self.entries[used].fill(0);
+        let state = std::mem::replace(&mut self.state, state);
+        let (marks, rights) = (std::mem::replace(&mut self.marks, marks), std::mem::replace(&mut self.rights, rights));
+        let (told, stamps) = taken?.into_iter().unzip();
+        Ok(Tried { known: self.known, state, added, marks, rights, told, stamps })
+    }
+
+    /// Takes steps for good that were tried on this copy, if it is still made of the same rows, and says whether it is.
+    pub fn adopt(&mut self, tried: &mut Tried) -> bool {
+        if tried.known != self.known {
+            return false;
+        }
+        std::mem::swap(&mut self.state, &mut tried.state);
+        let first = self.entry_count();
+        self.entries[first..][..tried.added.len()].copy_from_slice(&tried.added);
+        (self.marks, self.rights) = (tried.marks, tried.rights);
+        true
     }
 
     /// The rows of a request whose steps were taken are known.
     pub fn count(&mut self, id: u64, index: u64, change: &Change) {
-        self.known = self.known.and(id, index, change);
+        self.count_as(self.known.and(id, index, change), id, change);
+    }
+
+    /// The same, where it was said before which rows are known then.
+    pub fn count_as(&mut self, known: Known, id: u64, change: &Change) {
+        self.known = known;
         self.note(id, change);
     }
 
@@ -173,9 +221,10 @@ impl Replica {
         Ok(())
     }
 
+    /// The library keeps the buffers well formed: the word of an entry has the number of its ledger, which is not 0, and
+    /// each word behind the last entry is 0. To ask the library would be to check all words once more.
     fn entry_count(&self) -> usize {
-        // The library keeps the buffers well formed, so that there is a view.
-        self.log().view().map_or(0, |view| view.entry_count() as usize)
+        self.entries.partition_point(|&word| word != 0)
     }
 }
 
@@ -249,7 +298,8 @@ impl<'a> Follower<'a> {
     fn flush(&mut self) -> Result<(), Error> {
         let (words, stamps) = (std::mem::take(&mut self.words), std::mem::take(&mut self.stamps));
         let last = self.replica.known.rows;
-        if words.len() >= PLAN_FROM && self.run(&words, &stamps) {
+        let writes = stamps.iter().all(|stamp| stamp.is_some_and(Stamp::is_entry));
+        if words.len() >= if writes { PLAN_OF_WRITES_FROM } else { PLAN_FROM } && self.run(&words, &stamps) {
             return Ok(());
         }
         for (row, (word, stamp)) in (last + 1 - words.len() as i64..).zip(words.iter().zip(stamps)) {
@@ -261,14 +311,15 @@ impl<'a> Follower<'a> {
 
     /// Runs a plan, and says whether it came to the entries that the rows tell of. If not, nothing has changed.
     fn run(&mut self, plan: &[StepWord], stamps: &[Option<Stamp>]) -> bool {
-        let before = (self.replica.state.clone(), self.replica.entries.clone());
-        let first = self.replica.entry_count();
+        let (before, first) = (self.replica.state.clone(), self.replica.entry_count());
         let Replica { state, entries, rights, .. } = &mut *self.replica;
         LogMut::new(state, entries).run_plan(rights, plan, plan.len() as u64);
         // A server's rows have no answers.
         let agrees = stamps.iter().all(Option::is_none) || self.agrees(first, plan, stamps);
         if !agrees {
-            (self.replica.state, self.replica.entries) = before;
+            self.replica.state = before;
+            // A step changes no entry but the one that it adds.
+            self.replica.entries[first..].fill(0);
         }
         agrees
     }
@@ -276,18 +327,17 @@ impl<'a> Follower<'a> {
     /// Whether the entries from the first new one on are those that the rows tell of, each with its place.
     fn agrees(&self, first: usize, plan: &[StepWord], stamps: &[Option<Stamp>]) -> bool {
         let entries = &self.replica.entries;
-        let mut places = [0; 256];
-        for &entry in &entries[..first] {
-            places[(entry >> 56) as usize] += 1;
-        }
+        // Few ledgers have new entries, mostly one: so the earlier entries are counted for these only.
+        let mut places = [None; 256];
+        let earlier = |ledger| entries[..first].iter().filter(|&&entry| entry >> 56 == ledger).count() as u64;
         let mut next = first;
         for (word, stamp) in plan.iter().zip(stamps) {
             let Some(stamp) = stamp else { return false };
-            if stamp.answer >> 32 != 1 {
+            if !stamp.is_entry() {
                 continue;
             }
             let Some(&entry) = entries.get(next) else { return false };
-            let place = &mut places[(entry >> 56) as usize];
+            let place = places[(entry >> 56) as usize].get_or_insert_with(|| earlier(entry >> 56));
             let same = client_of(entry) == word.client() && value_of(entry) == value_of(word.0);
             if !same || stamp.answer != (1 << 32) + ((next as u64) << 16) + *place {
                 return false;

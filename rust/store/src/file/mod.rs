@@ -1,8 +1,10 @@
 //! The engine that keeps rows in a file of SQLite, which processes of one computer share.
 //!
-//! A request is one transaction that begins with the write lock. A copy follows the rows before that, so that under the
-//! lock it has only those to follow that came meanwhile; and the answers of the request are known when its rows are
-//! inserted, so that they are stored with them.
+//! A request is one transaction that begins with the write lock. A copy that had every row some milliseconds ago is few
+//! rows short; an older one follows the rows before that, and again every few milliseconds while it waits for the lock. So
+//! under the lock there are few rows to follow. Where SQLite tells that nothing was committed since the copy had every row,
+//! there is nothing to read. The answers of the request are known when its rows are inserted, so that they are stored with
+//! them.
 
 mod backup;
 pub mod cause;
@@ -40,6 +42,10 @@ use watched::{Beside, FileNumber};
 /// steps. A look that finds nobody else counts fourfold.
 const LOOKS: u32 = 100;
 
+/// How long a copy that had every row counts as one that is few rows short. With sixteen processes that wait in turn, looks
+/// every 1.5 ms took more from the others than they saved under the lock.
+const RECENT: Duration = Duration::from_millis(5);
+
 /// What SQLite does not keep in the file.
 const PRAGMAS: [&str; 3] = ["synchronous = FULL", "trusted_schema = OFF", "cell_size_check = ON"];
 
@@ -61,10 +67,19 @@ pub(crate) struct FileEngine {
     to_copy: bool,
     /// How often the statements had been prepared once more when the schema was last looked at.
     verified: i32,
+    /// When a copy last had every row.
+    whole: Option<Whole>,
     format: Format,
     file: FileNumber,
     patience: Duration,
     pub process: String,
+}
+
+/// The moment when a copy had every row: which rows these were, and SQLite's version of the file.
+struct Whole {
+    known: Known,
+    version: i32,
+    when: Instant,
 }
 
 impl FileEngine {
@@ -103,6 +118,7 @@ impl FileEngine {
             rollback: database.prepare("ROLLBACK")?,
             beside: if ahead { Some(Beside::of_open(&database)?) } else { None },
             verified: 0,
+            whole: None,
             copier: None,
             added: 0,
             to_copy: false,
@@ -214,12 +230,33 @@ impl FileEngine {
         Ok(known)
     }
 
+    /// The moment after a transaction that has read or stored the last of these rows.
+    fn whole_now(&self, known: Known) -> Result<Whole, Error> {
+        Ok(Whole { known, version: self.database.version()?, when: Instant::now() })
+    }
+
+    /// Takes the write lock. While another process has it, the copy follows the rows that this one stores.
+    fn lock(&mut self, replica: &mut Replica) -> Result<Vec<WrongAnswer>, Error> {
+        let (since, mut wrong) = (Instant::now(), Vec::new());
+        loop {
+            self.database.set_patience(RECENT.min(self.patience));
+            let begun = self.begin.execute(&[]).map_err(Error::from);
+            self.database.set_patience(self.patience);
+            match begun {
+                Err(error) if error.is_busy() && since.elapsed() < sqlite::patience_now(self.patience) => {
+                    wrong.extend(self.follow(replica, None)?.wrong);
+                }
+                begun => return begun.map(|()| wrong),
+            }
+        }
+    }
+
     /// Inserts the rows of a request, in the transaction that is open.
-    fn insert(&mut self, mut known: Known, request: &Request<'_>) -> Result<(), Error> {
+    fn insert(&mut self, request: &Request<'_>) -> Result<(), Error> {
         let Some(insert) = &mut self.insert else { return Err(Error::OldFormat) };
         let origin = Origin { time: Some(now()), process: Some(&self.process) };
-        for (index, (asked, &stamp)) in (0..).zip(request.asked.iter().zip(request.stamps)) {
-            known = known.and(request.id, index, &asked.change);
+        let rows = request.asked.iter().zip(request.stamps).zip(request.after);
+        for (index, ((asked, &stamp), &known)) in (0..).zip(rows) {
             rows::stored(known, (request.id, index), asked, stamp, &origin, |values| insert.execute(values))?;
             if self.database.inserted() != 1 {
                 return Err(Error::Damaged(format!("row {} of its journal could not be inserted", known.rows)));
@@ -265,6 +302,8 @@ impl Engine for FileEngine {
     /// A request is appended under the lock, so that it is never come upon.
     fn follow(&mut self, replica: &mut Replica, _: Option<u64>) -> Result<Followed, Error> {
         let wrong = self.feed(Follower::new(replica))?;
+        // A wrong answer's process is looked for by a statement of its own, which may see rows that the copy does not have.
+        self.whole = if wrong.is_empty() { Some(self.whole_now(replica.known)?) } else { None };
         // Somebody has changed the schema since it was looked at.
         let prepared = self.since.prepared_again();
         if self.verified != prepared {
@@ -275,7 +314,10 @@ impl Engine for FileEngine {
     }
 
     fn catch_up(&mut self, replica: &mut Replica) -> Result<Vec<WrongAnswer>, Error> {
-        self.follow(replica, None).map(|followed| followed.wrong)
+        match &self.whole {
+            Some(whole) if whole.when.elapsed() < RECENT => Ok(Vec::new()),
+            _ => self.follow(replica, None).map(|followed| followed.wrong),
+        }
     }
 
     fn hold(&mut self, replica: &mut Replica) -> Result<Followed, Error> {
@@ -283,8 +325,12 @@ impl Engine for FileEngine {
             return Err(Error::OldFormat);
         }
         self.write_ahead()?;
-        self.begin.execute(&[])?;
-        self.follow(replica, None)
+        let mut wrong = self.lock(replica)?;
+        let version = self.database.version()?;
+        if self.whole.as_ref().is_none_or(|whole| (whole.known, whole.version) != (replica.known, version)) {
+            wrong.extend(self.follow(replica, None)?.wrong);
+        }
+        Ok(Followed { wrong, stopped: false })
     }
 
     fn release(&mut self) -> Result<(), Error> {
@@ -298,9 +344,11 @@ impl Engine for FileEngine {
     }
 
     fn append(&mut self, known: Known, request: &Request<'_>) -> Result<Appended, Error> {
-        self.insert(known, request)?;
+        self.insert(request)?;
         self.commit.execute(&[]).map_err(Error::of_commit)?;
         (self.added, self.to_copy) = (request.asked.len() as u64, true);
+        // What is stored is answered: where there is no version to be had, the rows are read again next time.
+        self.whole = request.after.last().and_then(|&known| self.whole_now(known).ok());
         Ok(Appended::Placed(known.rows))
     }
 }
