@@ -2,8 +2,10 @@
 //!
 //! A copy that is many rows short gathers their steps and has the library run them as a plan: the buffers are checked
 //! once for all of them, and a row costs some 8 ns in place of a microsecond. A plan does not tell the answer to each
-//! step. So the entries that it has made are compared with what the rows say of them, and if these differ, the steps
-//! are taken once more, one by one. Few rows, one's own request and every row of a check are taken singly.
+//! step. So accepted writes in a row are a plan: what their rows say is compared with the entries that it has made, and if
+//! these differ, the steps are taken once more, one by one. Other steps are taken singly, each answer compared, and so are
+//! one's own request and every row of a check. Only where a very long stretch of steps is missing all of it is one plan, of
+//! which the entries are compared.
 //!
 //! One's own request is taken before its rows are stored, and taken back. What it had made of the copy is kept: where its
 //! rows come straight after those that the copy has, that is what they make of it, and nothing is taken a second time.
@@ -67,11 +69,11 @@ pub(crate) struct Tried {
     pub stamps: Vec<Stamp>,
 }
 
-/// How many rows are taken as a plan, and not singly.
-const PLAN_FROM: usize = 16;
+/// How many writes in a row are taken as a plan, and not singly.
+const PLAN_FROM: usize = 4;
 
-/// How many, where each is a write that was accepted: then what is compared with the entries is all of each answer.
-const PLAN_OF_WRITES_FROM: usize = 4;
+/// How many steps are taken as one plan, whatever they are: singly they would take 10 ms and more.
+const LONG_PLAN_FROM: usize = 10_000;
 
 /// The words of a log, its marks and its rights, as its rows leave them.
 #[derive(Clone, Debug, PartialEq, Eq)]
@@ -297,14 +299,23 @@ impl<'a> Follower<'a> {
 
     fn flush(&mut self) -> Result<(), Error> {
         let (words, stamps) = (std::mem::take(&mut self.words), std::mem::take(&mut self.stamps));
-        let last = self.replica.known.rows;
-        let writes = stamps.iter().all(|stamp| stamp.is_some_and(Stamp::is_entry));
-        if words.len() >= if writes { PLAN_OF_WRITES_FROM } else { PLAN_FROM } && self.run(&words, &stamps) {
+        if words.len() >= LONG_PLAN_FROM && self.run(&words, &stamps) {
             return Ok(());
         }
-        for (row, (word, stamp)) in (last + 1 - words.len() as i64..).zip(words.iter().zip(stamps)) {
-            let step = word.step().expect("a word that was made of a step");
-            self.single(row, &Change::Step(word.client(), step), stamp)?;
+        let (first, mut at) = (self.replica.known.rows + 1 - words.len() as i64, 0);
+        while at < words.len() {
+            // Of a write that was accepted, and of a server's row, which has no answer, the entries tell all.
+            let entries = stamps[at..].iter().take_while(|stamp| stamp.is_none_or(Stamp::is_entry)).count();
+            let part = at..at + entries.max(1);
+            at = part.end;
+            if entries >= PLAN_FROM && self.run(&words[part.clone()], &stamps[part.clone()]) {
+                continue;
+            }
+            for place in part {
+                let step = words[place].step().expect("a word that was made of a step");
+                let change = Change::Step(words[place].client(), step);
+                self.single(first + place as i64, &change, stamps[place])?;
+            }
         }
         Ok(())
     }

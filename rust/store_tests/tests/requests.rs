@@ -158,31 +158,33 @@ fn who_steps() {
     assert_eq!(other.steppers(2).unwrap(), [stepper("one", Some("other")), stepper("other", None)]);
 }
 
-// A write that a process lies about: by its entry number, its place, its value or its being accepted at all. Whoever replays
-// it, singly or in a long row of steps, finds it, and takes no harm.
+// A write that a process lies about: by its entry number, its place, its value or its being accepted at all; or another step,
+// here the naming of a client, in a long row of writes. Each process that replays it finds it, and takes no harm.
 #[test]
 fn lies_in_a_long_row_of_steps() {
     let entry = |number: i64, place: i64| (1 << 32) + (number << 16) + place;
-    for lie in [entry(50, 49), entry(49, 48), 0, 2, 268, entry(4_000, 49)] {
+    let write = |value| if value == 60 { (1, Step::NAME) } else { (0, Step::write(value)) };
+    let lies = [entry(50, 49), entry(49, 48), 0, 2, 268, entry(4_000, 49)].map(|lie| (54, lie, "entry 49 place 49"));
+    for (row, lie, truth) in lies.into_iter().chain([1, 2, 261, entry(60, 60)].map(|lie| (65, lie, "ok"))) {
         let room = Scratch::in_memory();
         let file = room.file("run.db");
         let mut store = prepared(&file, &changes()[8].before);
         store.set_process_name("honest").unwrap();
-        store.take_all(&asked(&(0..100).map(|value| (0, Step::write(value))).collect::<Vec<_>>())).unwrap();
+        store.take_all(&asked(&(0..100).map(write).collect::<Vec<_>>())).unwrap();
         let wanted = store.latest().unwrap().chain().unwrap();
         drop(store);
         let database = Database::open(&file, Mode::Existing, PATIENCE).unwrap();
         let trigger = "SELECT sql FROM sqlite_schema WHERE name = 'journal_is_not_changed'";
         let trigger = database.text(trigger).unwrap().unwrap();
         database.execute("DROP TRIGGER journal_is_not_changed").unwrap();
-        database.execute(&format!("UPDATE journal SET answer = {lie}, process = 'liar' WHERE seq = 54")).unwrap();
+        database.execute(&format!("UPDATE journal SET answer = {lie}, process = 'liar' WHERE seq = {row}")).unwrap();
         database.execute(&trigger).unwrap();
         drop(database);
         let mut store = Store::open(&file).unwrap();
         let found = store.wrong_answers().to_vec();
         assert_eq!(found.len(), 1, "{lie}: {found:?}");
-        assert_eq!((found[0].row, found[0].process.as_deref()), (54, Some("liar")));
-        assert_eq!(found[0].replayed, "entry 49 place 49");
+        assert_eq!((found[0].row, found[0].process.as_deref()), (row, Some("liar")));
+        assert_eq!(found[0].replayed, truth);
         assert_eq!(store.check().unwrap().wrong, found);
         assert_eq!(store.latest().unwrap().chain().unwrap(), wanted);
         assert!(matches!(store.take(0, Step::write(7)), Ok(Answer::Stored(_))));
