@@ -13,7 +13,7 @@ macro_rules! subcommands {
 /// In the order of the overview.
 const SUBCOMMANDS: &[(&str, &str)] = subcommands![
     "session" "total" "trace" "create" "step" "show" "chain" "advise" "mark" "grant" "revoke" "check" "copy"
-    "upgrade" "schema" "audit" "settle"
+    "archive" "restore" "upgrade" "schema" "audit" "settle"
 ];
 
 /// The help of a subcommand.

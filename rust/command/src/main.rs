@@ -1,5 +1,6 @@
 //! The command cindrolf: sessions, run totals, pages of them, and run logs in files. The folder help/ says what it takes.
 
+mod archives;
 mod arguments;
 mod audit;
 mod check;
@@ -61,6 +62,8 @@ fn run(command: Command) -> Result<ExitCode, Failure> {
         Command::Revoke { file, client, right } => change(&file, |store| store.revoke(client, right))?,
         Command::Check { file, at } => return check::check(&file, at),
         Command::Copy { file, to } => whole(&file, &to, |store| store.copy_to(&to))?,
+        Command::Archive { file, to } => archives::archive(&file, &to)?,
+        Command::Restore { archive, to } => archives::restore(&archive, &to)?,
         Command::Schema => print(&store::schema())?,
         Command::Audit { file, once } => audit::audit(&file, once)?,
         Command::Settle { file, request } => {

@@ -29,7 +29,7 @@ fn the_overview_has_every_subcommand() {
     let files = std::fs::read_dir(folder).unwrap().map(|file| file.unwrap().path());
     let mut files: Vec<_> = files.map(|file| file.file_stem().unwrap().to_str().unwrap().to_owned()).collect();
     let mut names = names();
-    assert_eq!(names.len(), 17);
+    assert_eq!(names.len(), 19);
     names.push("cindrolf".into());
     names.sort();
     files.sort();

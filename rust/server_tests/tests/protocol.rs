@@ -356,6 +356,12 @@ fn copies_both_ways() {
     let mut back = Store::open(folder.join("back.db")).unwrap();
     assert_eq!(everything(&mut back), wanted);
     assert_eq!(back.check().map(|checked| (checked.rows, checked.wrong)), Ok((9, vec![])));
+    // By an archive too, which is the same of both.
+    let archive = server.archive().unwrap();
+    assert_eq!(file.archive().unwrap(), archive);
+    let restored = cluster.address("administrator", "restored");
+    Store::restore(&archive, &restored).unwrap();
+    assert_eq!(everything(&mut Store::open(&restored).unwrap()), wanted);
     // Controllers go on where it is, with ids of their own.
     assert_eq!(Store::open(address_of(&cluster, 0, "copied")).unwrap().write(0, 9).unwrap().number, EntryNumber(2));
     // Only an administrator copies, and what is refused leaves no log.

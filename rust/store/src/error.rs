@@ -36,6 +36,8 @@ pub enum Error {
     Damaged(String),
     /// The journal has as many rows of this client as it takes, or of marks and rights.
     JournalFull(Option<u64>),
+    /// The bytes are no archive, or one that was changed. This is why.
+    NoArchive(String),
     /// The file is of an earlier version, and is only read: [`Store::upgrade_to`](crate::Store::upgrade_to) makes a new file of
     /// it.
     OldFormat,
@@ -172,6 +174,7 @@ impl fmt::Display for Error {
             Error::JournalFull(None) => {
                 write!(f, "the log has {} rows of marks and rights, the most that it takes", crate::OTHER_ROW_LIMIT)
             }
+            Error::NoArchive(why) => write!(f, "it is no whole archive: {why}"),
             Error::OldFormat => f.write_str(
                 "it was made by an earlier version, and can only be read: 'cindrolf upgrade OLD NEW' makes a new file of it",
             ),

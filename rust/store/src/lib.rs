@@ -51,6 +51,7 @@
 //! any tool that reads one.
 
 mod address;
+mod archive;
 mod check;
 mod driver;
 mod engine;

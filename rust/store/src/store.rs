@@ -3,10 +3,11 @@
 use crate::address::Address;
 use crate::check::{Checked, WrongAnswer};
 use crate::driver::Wish;
+use crate::file::PRIVATE;
 use crate::file::processes::Stepper;
 use crate::file::store::FileStore;
 use crate::file::upgrade::write_new;
-use crate::journal::JournalRow;
+use crate::journal::{EachRow, JournalRow};
 use crate::kept::Kept;
 use crate::latest::Latest;
 use crate::request::{Asked, Change, Told};
@@ -22,9 +23,6 @@ use std::time::{Duration, Instant};
 
 /// How long a call waits for another process, or for the server, unless it is told otherwise.
 pub const PATIENCE: Duration = Duration::from_secs(10);
-
-/// Who may use a file that a server's log was copied to: the one who copied it.
-const PRIVATE: u32 = 0o600;
 
 /// How long [`Store::changed`] puts off its second look, and at most a later one.
 const SHORTEST_PAUSE: Duration = Duration::from_millis(1);
@@ -121,6 +119,11 @@ impl Store {
     /// them.
     pub fn each_row(&mut self, mut each: impl FnMut(JournalRow<'_>) -> Result<(), Error>) -> Result<(), Error> {
         self.kept.each_row(&mut |row| each(row.shown()))
+    }
+
+    /// Gives each row with all that is stored of it.
+    pub(crate) fn each_stored(&mut self, each: &mut EachRow<'_>) -> Result<(), Error> {
+        self.kept.each_row(each)
     }
 
     /// The processes that step for each client, of as many clients as are asked for.

@@ -43,7 +43,7 @@ impl FileStore {
 }
 
 /// The file that becomes the copy. What has no other name goes with it.
-pub(super) struct Part(pub PathBuf);
+pub(crate) struct Part(pub PathBuf);
 
 impl Part {
     /// Makes an empty file that nobody else may read, beside the copy's name.
@@ -85,7 +85,7 @@ impl Drop for Part {
     }
 }
 
-pub(super) fn of_the_copy(error: std::io::Error) -> Error {
+pub(crate) fn of_the_copy(error: std::io::Error) -> Error {
     match error.kind() {
         ErrorKind::AlreadyExists => Error::Exists,
         _ => Error::File(error.to_string()),

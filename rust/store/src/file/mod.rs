@@ -6,7 +6,7 @@
 //! there is nothing to read. The answers of the request are known when its rows are inserted, so that they are stored with
 //! them.
 
-mod backup;
+pub mod backup;
 pub mod cause;
 mod check;
 mod checkpoint;
@@ -41,6 +41,9 @@ use watched::{Beside, FileNumber};
 /// How often an empty file is looked at again, after a millisecond: the process that creates it may be between two of its
 /// steps. A look that finds nobody else counts fourfold.
 const LOOKS: u32 = 100;
+
+/// Who may use a file that was made of a log without a mode, as one on a server: its owner.
+pub(crate) const PRIVATE: u32 = 0o600;
 
 /// How long a copy that had every row counts as one that is few rows short. With sixteen processes that wait in turn, looks
 /// every 1.5 ms took more from the others than they saved under the lock.
