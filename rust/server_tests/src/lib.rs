@@ -5,6 +5,8 @@ pub mod cluster;
 pub mod controllers;
 pub mod fault;
 pub mod laboratory;
+pub mod measured;
+pub mod plain;
 pub mod port;
 pub mod processes;
 pub mod programs;

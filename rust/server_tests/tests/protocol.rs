@@ -155,6 +155,37 @@ fn cut_at_any_byte() {
     assert_eq!(store.check().unwrap().rows, next as i64 + 4);
 }
 
+// The network is cut at bytes of what a create sends, and of what it is answered: the log is made once, and its maker is
+// told so. Somebody who makes another of this name is told that there is one.
+#[test]
+fn a_create_cut_at_any_byte() {
+    let Some(cluster) = laboratory("a_create_cut_at_any_byte", "") else { return };
+    let proxy = Proxy::to(cluster.port());
+    let create = |log: &str| Store::create(at(0, proxy.port(), log), 2, Capacity::Large).map(drop);
+    let mut cuts = 0;
+    for way in [Way::ToServer, Way::ToClient] {
+        let before = proxy.let_through(way);
+        create(&format!("{way:?}")).unwrap();
+        let length = proxy.let_through(way) - before;
+        assert!(length > 300, "{length}");
+        for bytes in (0..length).step_by(9) {
+            proxy.limit(way, bytes, Then::End);
+            let log = format!("{way:?} {bytes}");
+            std::thread::scope(|scope| {
+                scope.spawn(|| {
+                    std::thread::sleep(Duration::from_millis(15));
+                    proxy.heal();
+                });
+                assert_eq!(create(&log), Ok(()), "{bytes} of {length}");
+            });
+            let other = Store::create(address_of(&cluster, cuts % 2, &log), 2, Capacity::Large);
+            assert_eq!(other.err(), Some(Error::Exists), "{bytes} of {length}");
+            cuts += 1;
+        }
+    }
+    assert_eq!(cluster.sql("SELECT count(*) FROM cindrolf.logs").unwrap(), (cuts + 2).to_string());
+}
+
 // Where nothing is heard until the deadline, it is not known; later the id tells.
 #[test]
 fn what_is_not_known_is_settled_later() {

@@ -291,6 +291,28 @@ fn logs_are_made_once() {
     assert_eq!(made.iter().filter(|made| *made == "t").count(), 1, "{made:?}");
 }
 
+// The same message makes a log once, however often it is sent; another one of its name makes none.
+#[test]
+fn a_creation_is_found_again() {
+    let Some(lab) = Laboratory::of("a_creation_is_found_again") else { return };
+    let create = |clients: u64, creation: &str| {
+        format!("SELECT cindrolf.create_log('run', 1, {clients}, 4096, {}, {creation})", bytes(&fresh(clients, 4096)))
+    };
+    for _ in 0..3 {
+        assert_eq!(lab.ask("c1", &create(4, "-77")), "t");
+    }
+    for (who, other) in
+        [("c1", create(4, "77")), ("c1", create(2, "-77")), ("c1", create(4, "NULL")), ("c0", create(4, "-77"))]
+    {
+        assert_eq!(lab.ask(who, &other), "f", "{who}: {other}");
+    }
+    assert_eq!(lab.ask("analyst", "SELECT client_count, creation, role FROM cindrolf.logs"), "4|-77|c1");
+    // The answer to a message that is sent again waits for the disk and the standby, as a commit that has written does.
+    let written = "SELECT pg_current_xact_id_if_assigned() IS NOT NULL";
+    let transaction = |create: &str| lab.ask("c1", &format!("BEGIN; {create}; {written}; COMMIT"));
+    assert_eq!(transaction(&create(4, "-77")), "t\nt");
+}
+
 // Neither an append nor a start leaves a dead version of the log's row, which a long query would keep.
 #[test]
 fn no_counter_row() {

@@ -8,6 +8,7 @@ use crate::request::{Asked, Chain, Change, DROP_MARK, Known, RULES, SET_MARK, SE
 use crate::{Error, file};
 use cindrolf::{Capacity, Kind, MarkName, Step};
 use postgres::{Connection, Fault, Rows, bytes, bytes_of, text};
+use std::hash::{BuildHasher, Hasher, RandomState};
 use std::num::NonZeroU32;
 use std::thread::sleep;
 use std::time::{Duration, Instant};
@@ -39,7 +40,9 @@ const STATEMENTS: &str = "\
     PREPARE since (integer, bigint) AS SELECT seq, request, part, kind, client, input, chain FROM cindrolf.rows \
     WHERE log = $1 AND seq >= $2 ORDER BY seq LIMIT 10000; \
     PREPARE append (integer, bigint, bytea, bigint, smallint[], bigint[], bytea[], text, text[]) AS \
-    SELECT cindrolf.append($1, $2, $3, $4, $5, $6, $7, $8, $9); SELECT cindrolf.version()";
+    SELECT cindrolf.append($1, $2, $3, $4, $5, $6, $7, $8, $9); \
+    PREPARE append_write (integer, bigint, bytea, bigint, bigint, bigint, text, text) AS \
+    SELECT cindrolf.append_write($1, $2, $3, $4, $5, $6, $7, $8); SELECT cindrolf.version()";
 
 /// A connection to the server of a log.
 pub(crate) struct ServerEngine {
@@ -51,18 +54,19 @@ pub(crate) struct ServerEngine {
     pub process: String,
     /// Whether the present call has stored anything.
     pub stored: bool,
+    /// Whether others have added rows meanwhile, when it last appended.
+    raced: bool,
 }
 
 impl ServerEngine {
     pub fn new(address: ServerAddress, patience: Duration) -> Self {
-        ServerEngine { address, connection: None, log: 0, patience, process: file::process_name(), stored: false }
+        let process = file::process_name();
+        ServerEngine { address, connection: None, log: 0, patience, process, stored: false, raced: false }
     }
 
-    /// Makes a fresh log, and says whether there was none of this name.
+    /// Makes a fresh log, and says whether there was none of this name. It finds its own where the answer was lost.
     pub fn create(&mut self, client_count: u64, capacity: Capacity) -> Result<bool, Error> {
-        let (name, words) = (text(&self.address.log), capacity.words());
-        let chain = bytes(&Known::fresh(client_count, capacity).chain);
-        let create = format!("SELECT cindrolf.create_log({name}, {RULES}, {client_count}, {words}, {chain})");
+        let create = format!("SELECT {}", create_call(&self.address.log, client_count, capacity));
         Ok(self.read(&create)?.text(0, 0) == Some("t"))
     }
 
@@ -220,11 +224,13 @@ impl Engine for ServerEngine {
     }
 
     fn append(&mut self, known: Known, request: &Request<'_>) -> Result<Appended, Error> {
-        let command = append_command(self.log, known, request, &self.process);
+        // What is faster for one who writes alone is slower for one of many.
+        let single = write_command(self.log, known, request, &self.process).filter(|_| !self.raced);
+        let command = single.unwrap_or_else(|| append_command(self.log, known, request, &self.process));
         match self.run(&command) {
             Ok(rows) => match rows.number(0, 0) {
                 Some(place @ 0..) => {
-                    self.stored = true;
+                    (self.stored, self.raced) = (true, place != known.rows);
                     Ok(Appended::Placed(place))
                 }
                 _ => Ok(Appended::OtherHistory),
@@ -289,6 +295,27 @@ fn of(fault: Fault) -> Error {
         Fault::Refused { state, .. } if state == "54000" => Error::Forbidden(fault.to_string()),
         Fault::Refused { .. } => Error::Forbidden(fault.to_string()),
     }
+}
+
+/// The call that makes a fresh log, with a number that no other call has.
+pub(crate) fn create_call(name: &str, client_count: u64, capacity: Capacity) -> String {
+    let (name, words, chain) = (text(name), capacity.words(), bytes(&Known::fresh(client_count, capacity).chain));
+    // The system seeds each of these at random. A process that is forked has the seed of its parent.
+    let mut random = RandomState::new().build_hasher();
+    random.write_u32(std::process::id());
+    let creation = random.finish() as i64;
+    format!("cindrolf.create_log({name}, {RULES}, {client_count}, {words}, {chain}, {creation})")
+}
+
+/// The command for a request that is a single write, if it is one.
+fn write_command(log: i64, known: Known, request: &Request<'_>, process: &str) -> Option<String> {
+    let [Asked { change: Change::Step(client, step), note }] = request.asked else { return None };
+    if step.kind() != Kind::Write {
+        return None;
+    }
+    let (rows, chain, id, process) = (known.rows, bytes(&known.chain), request.id as i64, text(process));
+    let (client, value, note) = (*client as i64, step.value() as i64, note.as_deref().map_or("NULL".into(), text));
+    Some(format!("EXECUTE append_write ({log}, {rows}, {chain}, {id}, {client}, {value}, {process}, {note})"))
 }
 
 fn append_command(log: i64, known: Known, request: &Request<'_>, process: &str) -> String {

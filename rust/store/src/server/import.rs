@@ -1,10 +1,10 @@
 //! A log of another place copied to a server, with its ids, times, processes and notes.
 
-use super::engine::ServerEngine;
+use super::engine::{ServerEngine, create_call};
 use crate::Error;
 use crate::address::ServerAddress;
 use crate::file::upgrade::Source;
-use crate::request::{Known, RULES};
+use crate::request::Known;
 use crate::store::PATIENCE;
 use cindrolf::Capacity;
 use postgres::{bytes, text};
@@ -15,7 +15,6 @@ const LONGEST: Duration = Duration::from_secs(600);
 
 /// Writes rows to a new log on a server, all of them or none. It is for an administrator of the server's logs.
 pub(crate) fn import(address: ServerAddress, fresh: (u64, Capacity), source: &mut Source<'_>) -> Result<(), Error> {
-    let (clients, words) = (fresh.0, fresh.1.words());
     let known = Known::fresh(fresh.0, fresh.1);
     // The columns of the rows, each as a list.
     let mut columns: [Vec<String>; 8] = Default::default();
@@ -40,7 +39,7 @@ pub(crate) fn import(address: ServerAddress, fresh: (u64, Capacity), source: &mu
     let lists = lists.collect::<Vec<_>>().join(", ");
     let (name, chain) = (text(&address.log), bytes(&known.chain));
     // One message is one transaction. Where there is a log of this name, the import is not even tried.
-    let create = format!("SELECT 1 / cindrolf.create_log({name}, {RULES}, {clients}, {words}, {chain})::integer");
+    let create = format!("SELECT 1 / {}::integer", create_call(&address.log, fresh.0, fresh.1));
     let log = format!("(SELECT log FROM cindrolf.logs WHERE name = {name})");
     let import = format!("SELECT cindrolf.import({log}, 0, {chain}, {lists})");
     match ServerEngine::new(address, PATIENCE).run_once(&format!("{create}; {import}"), LONGEST) {

@@ -1,19 +1,18 @@
 //! Acknowledged writes a second, by the store beside plain SQLite, and one by one beside requests of many: every 100 ms all
 //! processes change from one to the other.
 
-use cindrolf::{Answer, Capacity, Kind, Log, Refusal, Rights, Step};
-use limits::BATCH_LIMIT;
+use cindrolf::{Answer, Log, Rights, Step};
 use std::path::{Path, PathBuf};
 use std::process::{Child, Command, ExitCode, Stdio};
 use std::time::{Duration, Instant, SystemTime, UNIX_EPOCH};
 use store::database::{Database, Mode, Statement, Value};
-use store::{Asked, Change, Error, PATIENCE, Store};
+use store::{Error, PATIENCE};
 use store_tests::calls;
+use store_tests::rotating::{Logs, MANY};
 use store_tests::scratch::Scratch;
-use store_tests::shared::open_store;
+use store_tests::sides::{SLOT, Side, jain, longest, rate};
 
 const USAGE: &str = "usage: rates [--seconds N] [--folder FOLDER]";
-const SLOT: Duration = Duration::from_millis(100);
 
 fn main() -> ExitCode {
     let words: Vec<String> = std::env::args().skip(1).collect();
@@ -47,23 +46,6 @@ fn options(words: &[&str]) -> Result<(u64, PathBuf), String> {
 const PLAIN: &str = "plain";
 const REQUESTS: &str = "requests";
 
-/// How many writes a request of many has.
-const MANY: u64 = BATCH_LIMIT as u64;
-
-/// What one process did on one side.
-#[derive(Clone, Copy, Default)]
-struct Side {
-    writes: u64,
-    longest: Duration,
-}
-
-impl Side {
-    fn add(&mut self, writes: u64, taken: Duration) {
-        self.writes += writes;
-        self.longest = self.longest.max(taken);
-    }
-}
-
 fn table(seconds: u64, folder: &Path) -> Result<(), String> {
     println!("The proved step alone takes {} ns, over a log that fills up.", proved_step().as_nanos());
     println!("| Processes | A sync takes longer by | Plain | Store | Store / plain | Jain's index | Longest wait |");
@@ -90,28 +72,16 @@ fn measured(seconds: u64, folder: &Path, processes: usize, delay: u64, beside: &
     children.into_iter().map(result_of).collect()
 }
 
-/// The writes a second of all processes on one side, which has half of the time.
-fn rate(sides: &[[Side; 2]], side: usize, seconds: u64) -> f64 {
-    sides.iter().map(|sides| sides[side].writes).sum::<u64>() as f64 / (seconds as f64 / 2.0)
-}
-
 fn row(seconds: u64, folder: &Path, processes: usize, delay: u64) -> Result<(), String> {
     let sides = measured(seconds, folder, processes, delay, PLAIN)?;
     let [store, plain] = [0, 1].map(|side| rate(&sides, side, seconds));
-    let longest = sides.iter().map(|sides| sides[0].longest).max().unwrap_or_default();
     println!(
         "| {processes} | {delay} µs | {plain:.0} | {store:.0} | {:.2} | {:.2} | {} ms |",
         store / plain,
-        jain(&sides.iter().map(|sides| sides[0].writes as f64).collect::<Vec<_>>()),
-        longest.as_millis()
+        jain(&sides, 0),
+        longest(&sides, 0).as_millis()
     );
     Ok(())
-}
-
-/// Jain's index of fairness: 1 where all have as much.
-fn jain(counts: &[f64]) -> f64 {
-    let (sum, squares) = (counts.iter().sum::<f64>(), counts.iter().map(|count| count * count).sum::<f64>());
-    sum * sum / (counts.len() as f64 * squares)
 }
 
 fn start(folder: &Path, until: Duration, delay: u64, beside: &str) -> Result<Child, String> {
@@ -162,65 +132,6 @@ fn work(folder: &Path, until: &str, delay: &str, beside: &str) -> Result<(), Str
     let micros = |side: Side| side.longest.as_micros();
     println!("{} {} {} {}", store.writes, micros(store), plain.writes, micros(plain));
     Ok(())
-}
-
-/// Logs that rotate as they fill. All processes step for client 0, since only one client writes at a time.
-struct Logs {
-    /// Where they are, and how their names begin.
-    path: PathBuf,
-    number: u64,
-    store: Store,
-}
-
-impl Logs {
-    fn open(path: PathBuf, number: u64) -> Result<Logs, Error> {
-        let mut file = path.clone().into_os_string();
-        file.push(format!("-{number}.db"));
-        let store = open_store(Path::new(&file), 16, Capacity::Large)?;
-        Ok(Logs { path, number, store })
-    }
-
-    fn next(&mut self) -> Result<(), Error> {
-        *self = Logs::open(self.path.clone(), self.number + 1)?;
-        Ok(())
-    }
-
-    /// Writes many in one request, and says how many were accepted: some are refused where a log gets full.
-    fn write_many(&mut self, first: u64) -> Result<u64, Error> {
-        let asked: Vec<Asked> = (first..first + MANY).map(|value| Change::Step(0, Step::write(value)).into()).collect();
-        loop {
-            let told = self.store.take_all(&asked)?;
-            match told[0] {
-                Ok(_) => return Ok(told.iter().filter(|told| told.is_ok()).count() as u64),
-                Err(Refusal::LogFull) => self.next()?,
-                Err(Refusal::DoesNotLead | Refusal::OtherStage) => self.lead()?,
-                Err(refusal) => return Err(refusal.into()),
-            }
-        }
-    }
-
-    fn write(&mut self, value: u64) -> Result<(), Error> {
-        loop {
-            match self.store.write(0, value) {
-                Ok(_) => return Ok(()),
-                Err(Error::Refused(Refusal::LogFull)) => self.next()?,
-                Err(Error::Refused(Refusal::DoesNotLead | Refusal::OtherStage)) => self.lead()?,
-                Err(error) => return Err(error),
-            }
-        }
-    }
-
-    /// Takes a step towards the first write, unless another process was faster.
-    fn lead(&mut self) -> Result<(), Error> {
-        let step = match self.store.latest()?.log().advise(0)? {
-            Some(kind @ (Kind::Become | Kind::Fetch | Kind::Create | Kind::Append)) => Step::new(kind, 0),
-            _ => return Ok(()),
-        };
-        match self.store.take(0, step) {
-            Ok(_) | Err(Error::Refused(_)) => Ok(()),
-            Err(error) => Err(error),
-        }
-    }
 }
 
 /// A table of SQLite, with the durability and the waiting of the store.

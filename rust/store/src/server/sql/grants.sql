@@ -7,7 +7,8 @@ GRANT USAGE ON SCHEMA cindrolf TO cindrolf_controller, cindrolf_reader, cindrolf
 GRANT SELECT ON ALL TABLES IN SCHEMA cindrolf TO cindrolf_controller, cindrolf_reader, cindrolf_auditor, cindrolf_admin;
 GRANT EXECUTE ON FUNCTION cindrolf.version, cindrolf.number_of, cindrolf.time_of, cindrolf.mark_name
 TO cindrolf_controller, cindrolf_reader, cindrolf_auditor, cindrolf_admin;
-GRANT EXECUTE ON FUNCTION cindrolf.create_log, cindrolf.start, cindrolf.append, cindrolf.settle
+GRANT EXECUTE ON FUNCTION
+    cindrolf.create_log, cindrolf.start, cindrolf.append, cindrolf.append_write, cindrolf.settle
 TO cindrolf_controller, cindrolf_admin;
 GRANT EXECUTE ON FUNCTION cindrolf.answer TO cindrolf_auditor;
 GRANT EXECUTE ON FUNCTION cindrolf.import, cindrolf.admit, cindrolf.dismiss TO cindrolf_admin;

@@ -7,5 +7,6 @@ CREATE TABLE cindrolf.logs (
     entry_words bigint NOT NULL, -- 4096, or 512 on a small cartridge
     chain bytea NOT NULL, -- over the three numbers
     created timestamptz NOT NULL DEFAULT clock_timestamp(),
-    role text NOT NULL DEFAULT session_user
+    role text NOT NULL DEFAULT session_user,
+    creation bigint -- drawn by the one who made it, to find its own; none where it drew none
 );
