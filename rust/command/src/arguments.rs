@@ -3,8 +3,9 @@
 use crate::failure::Failure;
 use crate::steps::Manner;
 use crate::traces::Drawing;
-use crate::{help, marks};
-use cindrolf::{CLIENT_LIMIT, CLIENT_NUMBER_LIMIT, Capacity, Kind, MarkName, Right};
+use crate::write::{Reads, Writing};
+use crate::{given, help, marks};
+use cindrolf::{CLIENT_LIMIT, CLIENT_NUMBER_LIMIT, Capacity, Kind, MarkName, Right, VALUE_LIMIT};
 use limits::WAIT_LIMIT;
 use std::ffi::{OsStr, OsString};
 use std::os::unix::ffi::{OsStrExt, OsStringExt};
@@ -23,6 +24,7 @@ pub enum Command {
     Trace { file: PathBuf, drawing: Drawing },
     Create { file: PathBuf, clients: u64, capacity: Capacity },
     Step { file: PathBuf, lines: Vec<Vec<u8>>, manner: Manner },
+    Write(Writing),
     Show { file: PathBuf },
     Chain { file: PathBuf, at: Option<MarkName> },
     Advise { file: PathBuf, client: u64 },
@@ -77,6 +79,7 @@ fn options(name: &str) -> &'static [(&'static str, &'static str)] {
         "trace" => &[("--svg", ""), ("-o", "a file")],
         "create" => &[("--small", "")],
         "step" => &[("--explain", ""), ("--wait", "a number of seconds"), ("--witness", "a file")],
+        "write" => &[("--fastq", "a file"), ("--scores", ""), ("--resume", ""), ("--strict", "")],
         "chain" => &[("--at", "a name")],
         "mark" => &[("--drop", "")],
         "check" => &[("--at", "a row")],
@@ -91,6 +94,7 @@ fn parse(name: &str, args: Vec<OsString>) -> Result<Command, String> {
         "session" => return Ok(Command::Session { file: words.one_file()? }),
         "total" => return Ok(Command::Total { file: words.one_file()? }),
         "trace" => return words.trace(),
+        "write" => return words.write(),
         "schema" => return words.nothing().map(|()| Command::Schema),
         _ => {}
     }
@@ -181,6 +185,39 @@ impl Words {
         }
         let file = self.one_file()?.ok_or("one FILE, not 0")?;
         Ok(Command::Trace { file, drawing: Drawing { page, svg: self.option("--svg").is_some() } })
+    }
+
+    /// The last word is the client, but for values, which come after it.
+    fn write(&mut self) -> Result<Command, String> {
+        let (resume, strict) = (self.option("--resume").is_some(), self.option("--strict").is_some());
+        let fastq = self.option("--fastq").map(PathBuf::from);
+        let reads = match (fastq, self.option("--scores")) {
+            (Some(_), Some(_)) => return Err("one of --fastq and --scores, not both".into()),
+            (Some(file), None) if file.as_os_str().is_empty() => return Err("--fastq wants a file after it".into()),
+            (Some(file), None) => Reads::Fastq(file),
+            _ if resume => return Err("--resume goes with --fastq: it finds reads by their names".into()),
+            (None, Some(_)) => Reads::Scores,
+            (None, None) if strict => return Err("--strict goes with --fastq or --scores".into()),
+            (None, None) => Reads::Values(Vec::new()),
+        };
+        let words = self.words.len();
+        let logs = if matches!(reads, Reads::Values(_)) { 1 } else { words.saturating_sub(1).max(1) };
+        let logs: Vec<PathBuf> = (0..logs).map(|_| self.next("LOG").map(PathBuf::from)).collect::<Result<_, _>>()?;
+        if let Some(twice) = given::twice(&logs) {
+            return Err(format!("{} is named twice", twice.display()));
+        }
+        let client = self.client()?;
+        let reads = if let Reads::Values(_) = reads { Reads::Values(self.values()?) } else { reads };
+        Ok(Command::Write(Writing { logs, client, reads, resume, strict }))
+    }
+
+    fn values(&mut self) -> Result<Vec<u64>, String> {
+        let value = |text: OsString| {
+            let value = session::number(text.as_bytes(), VALUE_LIMIT);
+            value.ok_or(format!("VALUE is 0 to {VALUE_LIMIT}, in units of 10^-12, not '{}'", text.display()))
+        };
+        let values: Vec<u64> = self.words.by_ref().map(value).collect::<Result<_, _>>()?;
+        if values.is_empty() { Err("VALUE is missing, or --fastq READS, or --scores".into()) } else { Ok(values) }
     }
 
     fn nothing(&mut self) -> Result<(), String> {

@@ -52,16 +52,21 @@ impl Failure {
 
     /// Lines of steps that gave no answer, from this number on, and whether their steps are stored.
     pub fn of_lines(file: &Path, number: u64, lines: &[Vec<u8>], error: Error) -> Self {
+        let lines = match lines {
+            [line] => format!("line {number}, {}", String::from_utf8_lossy(line)),
+            _ => format!("lines {number} to {}", number + lines.len() as u64 - 1),
+        };
+        Self::of_request(file, &lines, error)
+    }
+
+    /// A request that gave no answer, by what was asked for, and whether it is stored.
+    pub fn of_request(file: &Path, asked: &str, error: Error) -> Self {
         let holder = holder(file, &error);
         let why = match error {
             Error::Engine { .. } | Error::Witness(_) | Error::Unknown { .. } => error.to_string(),
             error => format!("not stored: {error}"),
         };
-        let lines = match lines {
-            [line] => format!("line {number}, {}", String::from_utf8_lossy(line)),
-            _ => format!("lines {number} to {}", number + lines.len() as u64 - 1),
-        };
-        Failure::File(file.into(), format!("{lines}: {why}{holder}"))
+        Failure::File(file.into(), format!("{asked}: {why}{holder}"))
     }
 
     /// A copy that was not made, by the file that is at fault.

@@ -3,8 +3,8 @@
 use crate::failure::Failure;
 use std::fs::{self, File};
 use std::io;
-use std::os::unix::fs::FileExt;
-use std::path::Path;
+use std::os::unix::fs::{FileExt, MetadataExt};
+use std::path::{Path, PathBuf};
 
 /// What every file of SQLite begins with.
 const SQLITE: &[u8; 16] = b"SQLite format 3\0";
@@ -33,6 +33,18 @@ pub fn open(file: &Path) -> Result<File, Failure> {
 /// Whether it is the address of a log on a server.
 pub fn is_address(file: &Path) -> bool {
     file.to_str().is_some_and(|text| text.starts_with("postgresql://") || text.starts_with("postgres://"))
+}
+
+/// A log that is named a second time, by the same name or by another of the same file.
+pub fn twice(logs: &[PathBuf]) -> Option<&Path> {
+    let same = |one: &Path, other: &Path| one == other || matches!((id(one), id(other)), (Some(a), Some(b)) if a == b);
+    let again = |&index: &usize| logs[..index].iter().any(|log| same(log, &logs[index]));
+    (0..logs.len()).find(again).map(|index| &*logs[index])
+}
+
+/// What tells a file from every other one.
+fn id(file: &Path) -> Option<(u64, u64)> {
+    fs::metadata(file).ok().map(|about| (about.dev(), about.ino()))
 }
 
 /// Opens the file, and looks into it. A pipe is a session: what is read of it is gone.

@@ -12,8 +12,10 @@ macro_rules! subcommands {
 
 /// In the order of the overview.
 const SUBCOMMANDS: &[(&str, &str)] = subcommands![
-    "session" "total" "trace" "create" "step" "show" "chain" "advise" "mark" "grant" "revoke" "check" "copy"
-    "archive" "restore" "upgrade" "schema" "audit" "settle"
+    "session" "total" "trace"
+    "create" "step" "write" "show" "chain" "advise" "mark" "grant" "revoke" "check" "copy"
+    "archive" "restore" "upgrade"
+    "schema" "audit" "settle"
 ];
 
 /// The help of a subcommand.

@@ -19,6 +19,7 @@ mod steps;
 mod steps_of_log;
 mod table;
 mod traces;
+mod write;
 
 use arguments::Command;
 use failure::Failure;
@@ -52,6 +53,7 @@ fn run(command: Command) -> Result<ExitCode, Failure> {
             Store::create(&file, clients, capacity).map(drop).map_err(|error| Failure::of_making(&file, error))?;
         }
         Command::Step { file, lines, manner } => steps::take(&file, &lines, &manner)?,
+        Command::Write(writing) => write::write(&writing)?,
         Command::Show { file } => print(&show::text(&file, &mut open(&file)?)?)?,
         Command::Chain { file, at } => print(&read(&file, |store| readings::chain(store, at))?)?,
         Command::Advise { file, client } => print(&read(&file, |store| readings::advice(store, client))?)?,

@@ -31,6 +31,36 @@ fn wrong_arguments() {
             "there is no option --small",
             "usage: cindrolf step [--explain] [--wait SECONDS] [--witness KEPT] FILE [LINE..]",
         ),
+        (&["write"], "LOG is missing", "usage: cindrolf write [--resume] [--strict] --fastq READS LOG.. CLIENT"),
+        (&["write", "run.log"], "CLIENT is missing", "usage: cindrolf write"),
+        (&["write", "run.log", "0"], "VALUE is missing, or --fastq READS, or --scores", "usage: cindrolf write"),
+        (
+            &["write", "run.log", "0", "x"],
+            "VALUE is 0 to 4503599627370495, in units of 10^-12, not 'x'",
+            "usage: cindrolf",
+        ),
+        (
+            &["write", "run.log", "0", "7", "4503599627370496"],
+            "VALUE is 0 to 4503599627370495",
+            "usage: cindrolf write",
+        ),
+        (&["write", "run.log", "0", "0.5"], "VALUE is 0 to 4503599627370495", "usage: cindrolf write"),
+        (&["write", "--fastq", "r", "0"], "CLIENT is missing", "usage: cindrolf write"),
+        (&["write", "--fastq", "r", "run.log", "x"], "CLIENT is a number from 0, not 'x'", "usage: cindrolf write"),
+        (&["write", "--fastq", "", "run.log", "0"], "--fastq wants a file after it", "usage: cindrolf write"),
+        (&["write", "run.log", "0", "--fastq"], "--fastq wants a file after it", "usage: cindrolf write"),
+        (
+            &["write", "--fastq", "r", "--scores", "run.log", "0"],
+            "one of --fastq and --scores",
+            "usage: cindrolf write",
+        ),
+        (&["write", "--resume", "--scores", "run.log", "0"], "--resume goes with --fastq", "usage: cindrolf write"),
+        (
+            &["write", "--strict", "run.log", "0", "7"],
+            "--strict goes with --fastq or --scores",
+            "usage: cindrolf write",
+        ),
+        (&["write", "--fastq", "r", "run.log", "./run.log", "0"], "./run.log is named twice", "usage: cindrolf write"),
         (&["show", "run.log", "x"], "show does not take 'x'", "usage: cindrolf show FILE"),
         (&["chain", "run.log", "--at"], "--at wants a name after it", "usage: cindrolf chain [--at NAME] FILE"),
         (&["chain", "--at", "before the wash", "run.log"], "NAME has 1 to 8 bytes", "usage: cindrolf chain"),
@@ -55,9 +85,11 @@ fn wrong_arguments() {
 }
 
 /// Every command that takes a log and nothing else.
-const ON_A_LOG: [&[&str]; 13] = [
+const ON_A_LOG: [&[&str]; 15] = [
     &["step", "FILE"],
     &["step", "FILE", "B 0"],
+    &["write", "FILE", "0", "7"],
+    &["write", "--resume", "--fastq", "/dev/null", "FILE", "0"],
     &["show", "FILE"],
     &["chain", "FILE"],
     &["advise", "FILE", "0"],

@@ -78,3 +78,30 @@ fn addresses() {
     assert!(folder.output(&["schema"]).starts_with("-- The tables, functions, roles and views of run logs"));
     assert_eq!(folder.names(), [""; 0]);
 }
+
+// Reads from FASTQ go on in the next log of a server, and after an interruption.
+#[test]
+fn reads_of_fastq() {
+    let Some(cluster) = laboratory("reads_of_fastq", "") else { return };
+    let (folder, written) = (Folder::new(), support::reads::random(12, 700, 40));
+    let (first, second) = (&address_of(&cluster, 0, "first"), &address_of(&cluster, 0, "second"));
+    for log in [first, second] {
+        folder.quiet(&["create", "--small", log, "2"]);
+        folder.output(&["step", log, "B 0", "F 0", "C 0", "P 0"]);
+    }
+    let fastq = |reads| std::fs::write(folder.path("reads.fastq"), support::reads::fastq(reads)).unwrap();
+    fastq(&written[..300]);
+    let answers = folder.output(&["write", "--fastq", "reads.fastq", first, second, "0"]);
+    assert_eq!(answers, support::reads::answers(&written[..300], 512));
+    fastq(&written[..]);
+    let resumed = folder.run(&["write", "--resume", "--fastq", "reads.fastq", first, second, "0"]);
+    let said = format!("cindrolf: 300 reads are stored already\ncindrolf: {first} is full: going on in {second}\n");
+    assert_eq!((resumed.status, resumed.errors), (Some(0), said));
+    assert_eq!(answers + &resumed.output, support::reads::answers(&written, 512));
+    let values = |log: &str| support::values(&folder.output(&["chain", log]));
+    let stored = [values(first), values(second)].concat();
+    assert!(stored.into_iter().eq(written.iter().map(support::reads::Read::value)));
+    // A controller steps for its own client alone.
+    let said = folder.failure(1, &["write", &address_of(&cluster, 1, "second"), "0", "7"]);
+    assert!(said.contains("value 1: not stored: the server says: ") && said.contains("42501"), "{said}");
+}

@@ -69,6 +69,10 @@ pub const LOG_NAME_LIMIT: usize = 200;
 /// for long.
 pub const BATCH_LIMIT: usize = 256;
 
+/// Bytes of a line of reads, without its end. The longest reads that any instrument has given are some four million bases;
+/// the log takes 4,000, and refuses the others by their names.
+pub const READ_LINE_LIMIT: usize = 16_777_216;
+
 /// Bytes of one field of a log's file, so that a file which was made to deceive cannot use up the memory. The largest
 /// is a text of its schema; the scores of a read have at most 8,000 bytes.
 pub const FIELD_LIMIT: i32 = 65_536;

@@ -2,6 +2,8 @@
 
 #![allow(dead_code)]
 
+pub mod reads;
+
 use std::io::{BufRead, BufReader, Lines, Write};
 use std::ops::Range;
 use std::os::unix::process::CommandExt;
