@@ -170,7 +170,51 @@ stage() {
     [ -n "${CINDROLF_ARCHIVE_DIR-}" ] || keep
 }
 
-# Replaces a program whole: one that runs goes on as it is.
+# ---- the libraries
+# Sees to it that target/installed has the libraries and their headers, laid out as below a prefix.
+libraries() {
+    for tool in find sort sha256sum; do need "$tool" "a sum of the sources"; done
+    number=$(version) && store_number=$(store_version) || exit 2
+    ! has_libraries || return 0
+    need_cargo
+    need_sqlite
+    compiler=${CC:-cc}
+    need "${compiler%% *}" "a C compiler (CC names another)"
+    lock
+    # Another may have built them meanwhile.
+    has_libraries || build_libraries
+    unlock
+}
+
+has_libraries() {
+    product libraries "crates crates.txt include rust/Cargo.toml rust/Cargo.lock rust/cindrolf rust/limits rust/digest rust/sqlite rust/postgres rust/store rust/store_library" \
+        target/installed/lib/libcindrolf.a "target/installed/lib/libcindrolf.so.$number" target/installed/lib/libcindrolf_store.a \
+        "target/installed/lib/libcindrolf_store.so.$store_number"
+    [ -z "${CINDROLF_ARCHIVE_DIR-}" ] && up_to_date
+}
+
+build_libraries() {
+    "$root/tools/archive" </dev/null || fail $? "there is no archive to link"
+    writable "$target" "$target/made" "$target/installed/lib" "$target/installed/include"
+    rm -f -- "$record"
+    say "building the libraries"
+    cargo_in_target build --release --quiet --package cindrolf-store-library </dev/null || fail 1 "the library of the store does not build"
+    archive=${CINDROLF_ARCHIVE_DIR:-$target/staticlib}/libcindrolf.a
+    # Only the library's own functions can be seen from outside, and all that they need has to be there.
+    echo '{ global: cindrolf_*; local: *; };' >"$target/made/exported"
+    $compiler -shared -o "$target/made/shared" -Wl,-soname,"libcindrolf.so.$number" -Wl,--version-script="$target/made/exported" -Wl,-z,defs \
+        -Wl,--whole-archive "$archive" -Wl,--no-whole-archive || fail 1 "the archive makes no shared library"
+    put_program "$archive" lib/libcindrolf.a
+    put_program "$target/made/shared" "lib/libcindrolf.so.$number"
+    put_program "$target/rust/release/libcindrolf_store_library.a" lib/libcindrolf_store.a
+    put_program "$target/rust/release/libcindrolf_store_library.so" "lib/libcindrolf_store.so.$store_number"
+    ln -sf "libcindrolf.so.$number" "$target/installed/lib/libcindrolf.so" || fail 2 "cannot write in $target/installed/lib"
+    ln -sf "libcindrolf_store.so.$store_number" "$target/installed/lib/libcindrolf_store.so" || fail 2 "cannot write in $target/installed/lib"
+    for header in "$root"/include/*; do put_program "$header" "include/${header##*/}"; done
+    [ -n "${CINDROLF_ARCHIVE_DIR-}" ] || keep
+}
+
+# Replaces a program or a library whole: one that runs goes on as it is.
 put_program() { # FROM PLACE
     { cp -- "$1" "$target/installed/$2.new" && mv -f -- "$target/installed/$2.new" "$target/installed/$2"; } ||
         fail 2 "cannot write $target/installed/$2"

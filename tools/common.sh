@@ -54,6 +54,12 @@ version() {
         fail 2 "$root/include/cindrolf.h has no CINDROLF_VERSION"
 }
 
+# The version of the interface of the store, for C, C++ and Python.
+store_version() {
+    sed -n 's/^#define CINDROLF_STORE_VERSION UINT64_C(\([0-9]*\))$/\1/p' "$root/include/cindrolf_store.h" | grep . ||
+        fail 2 "$root/include/cindrolf_store.h has no CINDROLF_STORE_VERSION"
+}
+
 # A path as it is called from any folder.
 absolute() { # PATH
     case $1 in

@@ -67,7 +67,7 @@ impl From<Change> for Asked {
 
 impl Change {
     /// The number of its kind in a row.
-    pub(crate) fn kind(&self) -> u64 {
+    pub fn kind(&self) -> u64 {
         match self {
             Change::Step(_, step) => step.kind().number(),
             Change::WriteScores(..) => WRITE_SCORES,
