@@ -9,6 +9,7 @@ pub mod forged;
 pub mod journal;
 pub mod kernel;
 pub mod kinds;
+pub mod languages;
 pub mod notes;
 pub mod place;
 pub mod plans;

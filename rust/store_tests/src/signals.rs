@@ -4,6 +4,8 @@ use std::ffi::c_int;
 use std::io;
 use std::process::Child;
 
+/// Asks a process to end.
+pub const SIGTERM: c_int = 15;
 /// Has a process go on.
 pub const SIGCONT: c_int = 18;
 /// Stops a process, which keeps all that it holds.
