@@ -133,7 +133,8 @@ mod tests {
         assert!(table.iter().map(|(_, number)| *number).eq(0..table.len() as c_int));
         let header = read("include/cindrolf_store.h");
         assert_eq!(listed(&header, "enum cindrolf_store_status {", "CINDROLF_STORE_"), table, "the header");
-        let python = read("python/cindrolf/_values.py").replace("\n    \"\"\"What a call on a shared log came to.\"\"\"\n", "");
+        let python =
+            read("python/cindrolf/_values.py").replace("\n    \"\"\"What a call on a shared log came to.\"\"\"\n", "");
         assert_eq!(listed(&python, "class Status(enum.IntEnum):", ""), table, "Python");
         // That for C++ takes its numbers from the header.
         let names: Vec<_> = Status::ALL.iter().map(|status| status.name()).collect();
