@@ -1,11 +1,12 @@
 //! The arguments: which subcommand, on which file, with what.
 
 use crate::failure::Failure;
+use crate::plans::Plan;
 use crate::steps::Manner;
 use crate::traces::Drawing;
 use crate::write::{Reads, Writing};
 use crate::{given, help, marks};
-use cindrolf::{CLIENT_LIMIT, CLIENT_NUMBER_LIMIT, Capacity, Kind, MarkName, Right, VALUE_LIMIT};
+use cindrolf::{CLIENT_LIMIT, CLIENT_NUMBER_LIMIT, Capacity, Kind, MarkName, Right, VALUE_LIMIT, WINDOW_LIMIT};
 use limits::WAIT_LIMIT;
 use std::ffi::{OsStr, OsString};
 use std::os::unix::ffi::{OsStrExt, OsStringExt};
@@ -20,20 +21,24 @@ pub enum Command {
     Help(&'static str),
     Version,
     Session { file: Option<PathBuf> },
-    Total { file: Option<PathBuf> },
+    Total { files: Vec<PathBuf>, as_json: bool },
     Trace { file: PathBuf, drawing: Drawing },
     Create { file: PathBuf, clients: u64, capacity: Capacity },
     Step { file: PathBuf, lines: Vec<Vec<u8>>, manner: Manner },
     Write(Writing),
-    Show { file: PathBuf },
-    Chain { file: PathBuf, at: Option<MarkName> },
-    Advise { file: PathBuf, client: u64 },
-    Marks { file: PathBuf },
+    Plan(Plan),
+    Forecast(Plan),
+    Show { file: PathBuf, as_json: bool },
+    Chain { file: PathBuf, at: Option<MarkName>, as_csv: bool },
+    Steps { file: PathBuf, as_csv: bool },
+    Window { file: PathBuf, length: u64, limit: u64, as_json: bool },
+    Advise { file: PathBuf, client: u64, as_json: bool },
+    Marks { file: PathBuf, as_json: bool },
     SetMark { file: PathBuf, name: MarkName },
     DropMark { file: PathBuf, name: MarkName },
     Grant { file: PathBuf, client: u64, right: Right },
     Revoke { file: PathBuf, client: u64, right: Right },
-    Check { file: PathBuf, at: Option<LastRow> },
+    Check { file: PathBuf, at: Option<LastRow>, as_json: bool },
     Copy { file: PathBuf, to: PathBuf },
     Archive { file: PathBuf, to: PathBuf },
     Restore { archive: PathBuf, to: PathBuf },
@@ -80,9 +85,12 @@ fn options(name: &str) -> &'static [(&'static str, &'static str)] {
         "create" => &[("--small", "")],
         "step" => &[("--explain", ""), ("--wait", "a number of seconds"), ("--witness", "a file")],
         "write" => &[("--fastq", "a file"), ("--scores", ""), ("--resume", ""), ("--strict", "")],
-        "chain" => &[("--at", "a name")],
-        "mark" => &[("--drop", "")],
-        "check" => &[("--at", "a row")],
+        "plan" | "forecast" => &[("--budget", "a number of steps"), ("--json", "")],
+        "total" | "show" | "window" | "advise" => &[("--json", "")],
+        "chain" => &[("--at", "a name"), ("--csv", "")],
+        "steps" => &[("--csv", "")],
+        "mark" => &[("--drop", ""), ("--json", "")],
+        "check" => &[("--at", "a row"), ("--json", "")],
         "audit" => &[("--once", "")],
         _ => &[],
     }
@@ -92,26 +100,31 @@ fn parse(name: &str, args: Vec<OsString>) -> Result<Command, String> {
     let mut words = Words::split(args, options(name))?;
     match name {
         "session" => return Ok(Command::Session { file: words.one_file()? }),
-        "total" => return Ok(Command::Total { file: words.one_file()? }),
+        "total" => return words.total(),
         "trace" => return words.trace(),
         "write" => return words.write(),
         "schema" => return words.nothing().map(|()| Command::Schema),
         _ => {}
     }
-    let file = words.next("FILE")?.into();
+    let file = words.next(if help::names_a_log(name) { "LOG" } else { "FILE" })?.into();
+    let (as_json, as_csv) = (words.option("--json").is_some(), words.option("--csv").is_some());
     let command = match name {
         "create" => Command::Create { file, clients: words.clients()?, capacity: words.capacity() },
         "step" => {
             let manner = words.manner()?;
             Command::Step { file, lines: words.rest(), manner }
         }
-        "show" => Command::Show { file },
-        "chain" => Command::Chain { file, at: words.option("--at").map(|name| mark(&name)).transpose()? },
-        "advise" => Command::Advise { file, client: words.client()? },
+        "plan" => Command::Plan(words.plan(file)?),
+        "forecast" => Command::Forecast(words.plan(file)?),
+        "show" => Command::Show { file, as_json },
+        "chain" => Command::Chain { file, at: words.option("--at").map(|name| mark(&name)).transpose()?, as_csv },
+        "steps" => Command::Steps { file, as_csv },
+        "window" => Command::Window { file, length: words.length()?, limit: words.limit()?, as_json },
+        "advise" => Command::Advise { file, client: words.client()?, as_json },
         "mark" => words.mark(file)?,
         "grant" => Command::Grant { file, client: words.client()?, right: words.right()? },
         "revoke" => Command::Revoke { file, client: words.client()?, right: words.right()? },
-        "check" => Command::Check { file, at: words.option("--at").map(|row| last_row(&row)).transpose()? },
+        "check" => Command::Check { file, at: words.option("--at").map(|row| last_row(&row)).transpose()?, as_json },
         "copy" => Command::Copy { file, to: words.next("TO")?.into() },
         "archive" => Command::Archive { file, to: words.next("ARCHIVE")?.into() },
         "restore" => Command::Restore { archive: file, to: words.next("TO")?.into() },
@@ -176,6 +189,40 @@ impl Words {
             0 | 1 => Ok(self.words.next().map(PathBuf::from)),
             count => Err(format!("one FILE, not {count}")),
         }
+    }
+
+    fn total(&mut self) -> Result<Command, String> {
+        let files: Vec<PathBuf> = self.words.by_ref().map(PathBuf::from).collect();
+        match given::twice(&files) {
+            Some(twice) => Err(format!("{} is named twice, and would count twice", twice.display())),
+            None => Ok(Command::Total { files, as_json: self.option("--json").is_some() }),
+        }
+    }
+
+    fn plan(&mut self, log: PathBuf) -> Result<Plan, String> {
+        let lines = self.next("PLAN")?.into();
+        let budget = match self.option("--budget") {
+            None => u64::MAX,
+            Some(text) => session::number(text.as_bytes(), u64::MAX)
+                .ok_or(format!("--budget wants a number of steps, not '{}'", text.display()))?,
+        };
+        Ok(Plan { log, lines, budget, as_json: self.option("--json").is_some() })
+    }
+
+    fn length(&mut self) -> Result<u64, String> {
+        let text = self.next("LENGTH")?;
+        let length = session::number(text.as_bytes(), WINDOW_LIMIT).filter(|&length| length > 0);
+        length.ok_or(format!("LENGTH is a number of reads, 1 to {WINDOW_LIMIT}, not '{}'", text.display()))
+    }
+
+    fn limit(&mut self) -> Result<u64, String> {
+        let text = self.words.next().ok_or("LIMIT is missing")?;
+        let limit = session::parts(text.as_bytes());
+        limit.ok_or(format!(
+            "LIMIT is a number of errors in digits, with a point and up to twelve decimals, as 0.010; at most {}; not '{}'",
+            session::exact(u64::MAX),
+            text.display()
+        ))
     }
 
     fn trace(&mut self) -> Result<Command, String> {
@@ -259,10 +306,12 @@ impl Words {
 
     /// With a name it sets or drops that mark, else it lists them.
     fn mark(&mut self, file: PathBuf) -> Result<Command, String> {
+        let as_json = self.option("--json").is_some();
         match (self.words.next(), self.option("--drop")) {
+            (Some(_), _) if as_json => Err("--json goes with the list of marks, without NAME".into()),
             (Some(name), None) => Ok(Command::SetMark { file, name: mark(&name)? }),
             (Some(name), Some(_)) => Ok(Command::DropMark { file, name: mark(&name)? }),
-            (None, None) => Ok(Command::Marks { file }),
+            (None, None) => Ok(Command::Marks { file, as_json }),
             (None, Some(_)) => Err("NAME is missing".into()),
         }
     }
@@ -288,14 +337,21 @@ mod tests {
         })
     }
 
+    fn usage(name: &str) -> &'static str {
+        help::usage(help::of(name).unwrap())
+    }
+
     #[test]
     fn options_anywhere() {
         let small = || Ok(Command::Create { file: "f".into(), clients: 2, capacity: Capacity::Small });
         for args in ["create --small f 2", "create f --small 2", "create f 2 --small", "create --small -- f 2"] {
             assert_eq!(parsed(args), small(), "{args}");
         }
-        assert_eq!(parsed("show -- --small"), Ok(Command::Show { file: "--small".into() }));
-        assert_eq!(parsed("show -"), Ok(Command::Show { file: "-".into() }));
+        let show = |file: &str, as_json| Ok(Command::Show { file: file.into(), as_json });
+        assert_eq!(parsed("show -- --small"), show("--small", false));
+        assert_eq!(parsed("show -"), show("-", false));
+        assert_eq!(parsed("show --json f"), show("f", true));
+        assert_eq!(parsed("show f -- --json"), Err(format!("show does not take '--json'\n{}", usage("show"))));
         let manner = || Manner { explain: true, wait: Duration::from_secs(7), witness: Some("w".into()) };
         for args in [
             "step --explain --wait 7 f W --witness w",
@@ -308,7 +364,8 @@ mod tests {
                 "{args}"
             );
         }
-        assert_eq!(parsed("chain f --at -x"), Ok(Command::Chain { file: "f".into(), at: marks::name(b"-x") }));
+        let at = marks::name(b"-x");
+        assert_eq!(parsed("chain f --at -x"), Ok(Command::Chain { file: "f".into(), at, as_csv: false }));
     }
 
     #[test]
@@ -326,14 +383,17 @@ mod tests {
             assert!(parsed(args).unwrap_err().starts_with(wrong), "{args}");
         }
         assert_eq!(parsed("session -- -a"), Ok(Command::Session { file: Some("-a".into()) }));
-        assert_eq!(parsed("total"), Ok(Command::Total { file: None }));
+        assert_eq!(parsed("total"), Ok(Command::Total { files: vec![], as_json: false }));
+        let files = vec!["a".into(), "b".into()];
+        assert_eq!(parsed("total a --json b"), Ok(Command::Total { files, as_json: true }));
     }
 
     #[test]
     fn every_command_has_its_usage() {
-        for name in "create step show chain advise mark grant revoke check copy".split(' ') {
+        for name in "create step plan forecast show chain steps window advise mark grant revoke check copy".split(' ') {
             let text = parsed(name).unwrap_err();
-            assert!(text.starts_with(&format!("FILE is missing\nusage: cindrolf {name} ")), "{text}");
+            let what = if ["plan", "forecast", "steps", "window"].contains(&name) { "LOG" } else { "FILE" };
+            assert!(text.starts_with(&format!("{what} is missing\nusage: cindrolf {name} ")), "{text}");
         }
     }
 }

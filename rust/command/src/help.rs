@@ -13,7 +13,8 @@ macro_rules! subcommands {
 /// In the order of the overview.
 const SUBCOMMANDS: &[(&str, &str)] = subcommands![
     "session" "total" "trace"
-    "create" "step" "write" "show" "chain" "advise" "mark" "grant" "revoke" "check" "copy"
+    "create" "step" "write" "plan" "forecast"
+    "show" "chain" "steps" "window" "advise" "mark" "grant" "revoke" "check" "copy"
     "archive" "restore" "upgrade"
     "schema" "audit" "settle"
 ];
@@ -26,6 +27,11 @@ pub fn of(name: &str) -> Option<&'static str> {
 /// Its first lines: what it takes.
 pub fn usage(help: &str) -> &str {
     help.split("\n\n").next().unwrap_or_default()
+}
+
+/// Whether what a subcommand takes first is called LOG there.
+pub fn names_a_log(name: &str) -> bool {
+    of(name).is_some_and(|help| usage(help).contains(" LOG"))
 }
 
 /// The subcommand whose name is closest to this one, by how many letters differ.

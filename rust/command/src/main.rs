@@ -5,12 +5,17 @@ mod arguments;
 mod audit;
 mod check;
 mod closed;
+mod csv;
 mod failure;
 mod given;
 mod help;
+mod journal;
+mod json;
 mod lines;
 mod marks;
 mod page;
+mod plans;
+mod printable;
 mod proved;
 mod readings;
 mod show;
@@ -18,12 +23,14 @@ mod signals;
 mod steps;
 mod steps_of_log;
 mod table;
+mod time;
+mod totals;
 mod traces;
+mod windows;
 mod write;
 
 use arguments::Command;
 use failure::Failure;
-use given::Given;
 use signals::Signals;
 use std::io::Write;
 use std::path::Path;
@@ -47,22 +54,33 @@ fn run(command: Command) -> Result<ExitCode, Failure> {
         Command::Help(text) => print(text)?,
         Command::Version => print(&format!("cindrolf {}\n", cindrolf::VERSION))?,
         Command::Session { file } => return proved::run("session", file.as_deref().map(given::open).transpose()?),
-        Command::Total { file } => return total(file.as_deref()),
+        Command::Total { files, as_json } => return totals::print(&files, as_json),
         Command::Trace { file, drawing } => traces::draw(&file, &drawing)?,
         Command::Create { file, clients, capacity } => {
             Store::create(&file, clients, capacity).map(drop).map_err(|error| Failure::of_making(&file, error))?;
         }
         Command::Step { file, lines, manner } => steps::take(&file, &lines, &manner)?,
         Command::Write(writing) => write::write(&writing)?,
-        Command::Show { file } => print(&show::text(&file, &mut open(&file)?)?)?,
-        Command::Chain { file, at } => print(&read(&file, |store| readings::chain(store, at))?)?,
-        Command::Advise { file, client } => print(&read(&file, |store| readings::advice(store, client))?)?,
-        Command::Marks { file } => print(&read(&file, marks::list)?)?,
+        Command::Plan(plan) => print(&plans::run(&plan)?)?,
+        Command::Forecast(plan) => print(&plans::forecast(&plan)?)?,
+        Command::Show { file, as_json: true } => print(&show::json(&file, &mut open(&file)?)?)?,
+        Command::Show { file, .. } => print(&show::text(&file, &mut open(&file)?)?)?,
+        Command::Chain { file, at, as_csv: true } => print(&read(&file, |store| readings::chain_csv(store, at))?)?,
+        Command::Chain { file, at, .. } => print(&read(&file, |store| readings::chain(store, at))?)?,
+        Command::Steps { file, as_csv: true } => print(&read(&file, journal::csv)?)?,
+        Command::Steps { file, .. } => print(&read(&file, journal::text)?)?,
+        Command::Window { file, length, limit, as_json } => {
+            print(&read(&file, |store| windows::first(store, length, limit, as_json))?)?;
+        }
+        Command::Advise { file, client, as_json } => {
+            print(&read(&file, |store| readings::advice(store, client, as_json))?)?;
+        }
+        Command::Marks { file, as_json } => print(&read(&file, |store| marks::list(store, as_json))?)?,
         Command::SetMark { file, name } => change(&file, |store| store.set_mark(name))?,
         Command::DropMark { file, name } => change(&file, |store| store.drop_mark(name))?,
         Command::Grant { file, client, right } => change(&file, |store| store.grant(client, right))?,
         Command::Revoke { file, client, right } => change(&file, |store| store.revoke(client, right))?,
-        Command::Check { file, at } => return check::check(&file, at),
+        Command::Check { file, at, as_json } => return check::check(&file, at, as_json),
         Command::Copy { file, to } => whole(&file, &to, |store| store.copy_to(&to))?,
         Command::Archive { file, to } => archives::archive(&file, &to)?,
         Command::Restore { archive, to } => archives::restore(&archive, &to)?,
@@ -75,15 +93,6 @@ fn run(command: Command) -> Result<ExitCode, Failure> {
         Command::Upgrade { file, to } => whole(&file, &to, |store| store.upgrade_to(&to))?,
     }
     Ok(ExitCode::SUCCESS)
-}
-
-/// The run total of a session, by the proved program, or of a log.
-fn total(file: Option<&Path>) -> Result<ExitCode, Failure> {
-    let Some(file) = file else { return proved::run("total", None) };
-    match given::look(file)? {
-        Given::Session(opened) => proved::run("total", Some(opened)),
-        Given::Log => print(&read(file, readings::total)?).map(|()| ExitCode::SUCCESS),
-    }
 }
 
 /// Opens a log. What another process has stored that is not so is told, and keeps nobody from going on.

@@ -1,8 +1,10 @@
 //! The names of marks as arguments, and the list of marks.
 
+use crate::json::Json;
+use crate::printable::printable;
 use cindrolf::MarkName;
 use std::fmt::Write;
-use store::{Error, Store};
+use store::{Error, Latest, Store};
 
 /// The name in these bytes, of which there are 1 to 8, none of them zero.
 pub fn name(bytes: &[u8]) -> Option<MarkName> {
@@ -14,19 +16,28 @@ pub fn name(bytes: &[u8]) -> Option<MarkName> {
 /// A name to be printed: as it was given, or with escapes where it has other bytes than text.
 pub fn printed(MarkName(bytes): MarkName) -> String {
     let length = bytes.iter().rposition(|&byte| byte != 0).map_or(0, |last| last + 1);
-    match str::from_utf8(&bytes[..length]) {
-        Ok(text) if !text.contains(char::is_control) => text.to_owned(),
-        _ => bytes[..length].escape_ascii().to_string(),
-    }
+    printable(&bytes[..length])
 }
 
-/// A line for each mark.
-pub fn list(store: &mut Store) -> Result<String, Error> {
+/// A line for each mark, or JSON.
+pub fn list(store: &mut Store, as_json: bool) -> Result<String, Error> {
+    let latest = store.latest()?;
+    if as_json {
+        return Ok(Json::Object(vec![("marks", json(latest))]).line());
+    }
     let mut text = String::new();
-    for (name, entries) in store.latest()?.mark_list() {
+    for (name, entries) in latest.mark_list() {
         let _ = writeln!(text, "mark {} entries {entries}", printed(name));
     }
     Ok(text)
+}
+
+/// The marks as a list.
+pub fn json(latest: Latest<'_>) -> Json {
+    let mark = |(name, entries): (MarkName, u64)| {
+        Json::Object(vec![("name", printed(name).into()), ("entries", entries.into())])
+    };
+    Json::list(latest.mark_list().map(mark))
 }
 
 #[cfg(test)]

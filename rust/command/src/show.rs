@@ -1,9 +1,10 @@
 //! A log for a person: who is named, who leads and at what stage, the ledgers with their counts, the marks.
 
 use crate::failure::Failure;
+use crate::json::Json;
 use crate::marks;
 use crate::table::{Side, Table};
-use cindrolf::{LEDGER_LIMIT, Ledger, LedgerNumber, Right, client_of};
+use cindrolf::{LEDGER_LIMIT, Ledger, LedgerNumber, LedgerSum, Right, client_of};
 use session::exact;
 use std::fmt::Write;
 use std::path::Path;
@@ -20,6 +21,59 @@ pub fn text(file: &Path, store: &mut Store) -> Result<String, Failure> {
     let parts: Result<String, Error> = parts(store);
     let parts = parts.map_err(|error| Failure::of_reading(file, error))?;
     Ok(format!("file          {}\n{parts}", file.display()))
+}
+
+/// The same as JSON.
+pub fn json(file: &Path, store: &mut Store) -> Result<String, Failure> {
+    let fields = |store: &mut Store| {
+        let steppers = store.steppers(cindrolf::CLIENT_LIMIT as usize)?;
+        let latest = store.latest()?;
+        let (view, sums) = (latest.view()?, latest.sums()?);
+        Ok(vec![
+            ("file", Json::path(file)),
+            ("entries", view.entry_count().into()),
+            ("capacity", (view.capacity().words() as u64).into()),
+            ("ledgers_created", created(latest)?.into()),
+            ("named_leader", view.named_leader().into()),
+            ("last_row", latest.last_row().to_string().into()),
+            ("clients", clients_json(latest, &steppers)?),
+            ("ledgers", ledgers_json(latest, &sums)?),
+            ("not_listed", Json::list(not_listed(latest, &sums)?.into_iter().map(Json::from))),
+            ("marks", marks::json(latest)),
+        ])
+    };
+    let fields: Result<_, Error> = fields(store);
+    Ok(Json::Object(fields.map_err(|error| Failure::of_reading(file, error))?).line())
+}
+
+fn clients_json(latest: Latest<'_>, steppers: &[Stepper]) -> Result<Json, Error> {
+    let (view, entries) = (latest.view()?, entries_of_clients(latest)?);
+    let clients = (0..).zip(view.clients()).zip(entries).zip(steppers);
+    Ok(Json::list(clients.map(|(((number, client), entries), stepper)| {
+        Json::Object(vec![
+            ("client", number.into()),
+            ("named", (number == view.named_leader()).into()),
+            ("leads", client.leads.into()),
+            ("stage", client.stage.name().into()),
+            ("ledger", client.ledger.map(|ledger| ledger.number.0).into()),
+            ("entries", entries.into()),
+            ("lacks", Json::list(lacks(latest, number).into_iter().map(Json::from))),
+            ("process", stepper.last.clone().into()),
+            ("other_process", stepper.other.clone().into()),
+        ])
+    })))
+}
+
+fn ledgers_json(latest: Latest<'_>, sums: &[(LedgerNumber, LedgerSum)]) -> Result<Json, Error> {
+    let view = latest.view()?;
+    Ok(Json::list(sums.iter().map(|&(number, ledger)| {
+        Json::Object(vec![
+            ("ledger", number.0.into()),
+            ("state", view.ledger(number).map(state).into()),
+            ("entries", ledger.entries.into()),
+            ("sum", exact(ledger.sum).into()),
+        ])
+    })))
 }
 
 fn summary(latest: Latest<'_>) -> Result<String, Error> {
@@ -47,12 +101,18 @@ fn turns(steppers: &[Stepper]) -> String {
     steppers.iter().enumerate().filter_map(warning).collect()
 }
 
-fn clients(latest: Latest<'_>, steppers: &[Stepper]) -> Result<String, Error> {
-    let view = latest.view()?;
+/// How many entries each client has written.
+fn entries_of_clients(latest: Latest<'_>) -> Result<[u64; cindrolf::CLIENT_LIMIT as usize], Error> {
     let mut entries = [0; cindrolf::CLIENT_LIMIT as usize];
     for word in latest.chain()? {
         entries[client_of(word) as usize] += 1;
     }
+    Ok(entries)
+}
+
+fn clients(latest: Latest<'_>, steppers: &[Stepper]) -> Result<String, Error> {
+    let view = latest.view()?;
+    let entries = entries_of_clients(latest)?;
     let mut table = Table::new([
         ("client", Side::Right),
         ("named", Side::Left),
@@ -83,10 +143,14 @@ fn yes(is: bool) -> String {
 }
 
 /// The letters of the steps that a client has no right to.
-fn lacking(latest: Latest<'_>, client: u64) -> String {
+fn lacks(latest: Latest<'_>, client: u64) -> Vec<String> {
     let rights = latest.rights();
     let lacking = Right::ALL.into_iter().filter(|&right| !rights.has(client, right));
-    let letters: Vec<_> = lacking.map(|right| right.letter().to_string()).collect();
+    lacking.map(|right| right.letter().to_string()).collect()
+}
+
+fn lacking(latest: Latest<'_>, client: u64) -> String {
+    let letters = lacks(latest, client);
     if letters.is_empty() { "-".into() } else { letters.join(" ") }
 }
 
@@ -100,13 +164,18 @@ fn ledgers(latest: Latest<'_>) -> Result<String, Error> {
         table.add([number.0.to_string(), state.into(), ledger.entries.to_string(), exact(ledger.sum)]);
     }
     let mut text = if sums.is_empty() { String::new() } else { format!("\n{}", table.text()) };
-    let listed = |number: &u64| sums.iter().any(|(listed, _)| listed.0 == *number);
-    let others: Vec<_> = (1..=created(latest)?).filter(|number| !listed(number)).collect();
+    let others = not_listed(latest, &sums)?;
     if !others.is_empty() {
         let numbers: Vec<_> = others.iter().map(u64::to_string).collect();
         let _ = write!(text, "\ncreated and not listed: {}\n", numbers.join(", "));
     }
     Ok(text)
+}
+
+/// The ledgers that were created and not listed.
+fn not_listed(latest: Latest<'_>, sums: &[(LedgerNumber, LedgerSum)]) -> Result<Vec<u64>, Error> {
+    let listed = |number: &u64| sums.iter().any(|(listed, _)| listed.0 == *number);
+    Ok((1..=created(latest)?).filter(|number| !listed(number)).collect())
 }
 
 fn state(ledger: Ledger) -> &'static str {

@@ -71,13 +71,14 @@ fn the_examples_run() {
     support::old("empty.db", &folder.path("old.db"));
     // Phred 30 is an error probability of a thousandth.
     std::fs::write(folder.path("reads.fastq"), "@a\nA\n+\n?\n").unwrap();
+    std::fs::write(folder.path("next.plan"), "W 0 202\n").unwrap();
     for name in names() {
         let help = help(&name);
         let script = format!("PATH=bin; {}", example(&help)[0]);
         let ended = support::ended(folder.shell(&script).spawn().unwrap());
         assert_eq!((ended.status, ended.errors.as_str()), (Some(0), ""), "{name}");
     }
-    assert_eq!(folder.output(&["chain", "copy.db"]), "chain 0:201 0:1000000000\n");
+    assert_eq!(folder.output(&["chain", "copy.db"]), "chain 0:201 0:1000000000 0:202\n");
 }
 
 #[test]

@@ -52,11 +52,12 @@ fn wrong_files() {
     for name in ["session", "total"] {
         is(shell(&folder, &format!("\"$0\" {name} nowhere")), 2, "", "cindrolf: there is no file nowhere\n");
         is(shell(&folder, &format!("\"$0\" {name} folder")), 2, "", "cindrolf: folder is a folder\n");
-        is(shell(&folder, &format!("\"$0\" {name} a b")), 2, "", "one FILE, not 2\nusage: cindrolf");
         is(shell(&folder, &format!("\"$0\" {name} --nowhere")), 2, "", "there is no option --nowhere\nusage: cindrolf");
         is(shell(&folder, &format!("\"$0\" {name} <&-")), 2, "", "standard input is closed, and no FILE is named");
         is(shell(&folder, &format!("\"$0\" {name} </dev/null >&-")), 2, "", "standard output is closed");
     }
+    is(shell(&folder, "\"$0\" session a b"), 2, "", "one FILE, not 2\nusage: cindrolf");
+    is(shell(&folder, "\"$0\" total a b"), 2, "", "cindrolf: there is no file a\n");
     is(shell(&folder, "\"$0\" trace run.session >&-"), 2, "", "standard output is closed");
     is(shell(&folder, "\"$0\" create run.db 2 >&-"), 2, "", "standard output is closed");
     assert!(!folder.path("run.db").exists());

@@ -94,7 +94,7 @@ fn wrong_rows() {
         let said = folder.failure(2, &["check", "--at", at, "run.log"]);
         let (first, usage) = said.split_once('\n').unwrap();
         assert_eq!(first, format!("cindrolf: N:CHAIN is as show and check print it, not '{at}'"));
-        assert_eq!(usage, "usage: cindrolf check [--at N:CHAIN] FILE\n");
+        assert_eq!(usage, "usage: cindrolf check [--at N:CHAIN] [--json] FILE\n");
     }
     let said = folder.failure(2, &["check", "run.log", "--at"]);
     assert!(said.starts_with("cindrolf: --at wants a row after it\n"), "{said}");

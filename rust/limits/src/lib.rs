@@ -73,6 +73,9 @@ pub const BATCH_LIMIT: usize = 256;
 /// the log takes 4,000, and refuses the others by their names.
 pub const READ_LINE_LIMIT: usize = 16_777_216;
 
+/// Bytes of a plan's file: as many of the longest lines as a log takes rows.
+pub const PLAN_LIMIT: usize = ROW_LIMIT as usize * (LINE_LIMIT + 1);
+
 /// Bytes of one field of a log's file, so that a file which was made to deceive cannot use up the memory. The largest
 /// is a text of its schema; the scores of a read have at most 8,000 bytes.
 pub const FIELD_LIMIT: i32 = 65_536;

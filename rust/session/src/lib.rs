@@ -119,6 +119,31 @@ pub fn exact(parts: u64) -> String {
     format!("{}.{:012}", parts / 1_000_000_000_000, parts % 1_000_000_000_000)
 }
 
+/// How many decimals [`exact`] prints.
+const DECIMALS: usize = 12;
+
+/// The parts of 10^-12 in a sum as [`exact`] prints it, of which decimals at the end may be left out.
+///
+/// ```
+/// assert_eq!(session::parts(b"0.010"), Some(10_000_000_000));
+/// assert_eq!(session::parts(b"2"), Some(2_000_000_000_000));
+/// assert_eq!(session::parts(b"0.0000000000001"), None);
+/// ```
+pub fn parts(text: &[u8]) -> Option<u64> {
+    let mut halves = text.splitn(2, |&byte| byte == b'.');
+    let whole = number(halves.next()?, u64::MAX)?;
+    let decimals = match halves.next() {
+        None => 0,
+        Some(digits) if digits.is_empty() || digits.len() > DECIMALS => return None,
+        Some(digits) => {
+            let digits = digits.iter().map(|&digit| digit.is_ascii_digit().then(|| u64::from(digit - b'0')));
+            let zeros = std::iter::repeat(Some(0));
+            digits.chain(zeros).take(DECIMALS).try_fold(0, |sum, digit| Some(10 * sum + digit?))?
+        }
+    };
+    whole.checked_mul(1_000_000_000_000)?.checked_add(decimals)
+}
+
 /// The two lines of a run total, without their ends: the exact one and the rounded one.
 pub fn total_lines(total: RunTotal) -> [String; 2] {
     let rounded = total.rounded;

@@ -1,5 +1,6 @@
 //! Records of FASTQ: four lines each, of which the name and the scores of the bases are kept.
 
+use crate::printable::printable;
 use limits::{NOTE_LIMIT, READ_LINE_LIMIT};
 use std::io::{self, BufRead, BufReader, ErrorKind, Read};
 
@@ -180,10 +181,7 @@ impl<R: Read> Records<R> {
 
 /// A name as it is noted: as it is, or with escapes where it has other bytes than text; no more of it than a note holds.
 fn noted(name: &[u8]) -> String {
-    let mut text = match str::from_utf8(name) {
-        Ok(text) if !text.contains(char::is_control) => text.to_owned(),
-        _ => name.escape_ascii().to_string(),
-    };
+    let mut text = printable(name);
     let end = (0..=text.len().min(NOTE_LIMIT)).rfind(|&end| text.is_char_boundary(end));
     text.truncate(end.unwrap_or(0));
     text
