@@ -6,7 +6,7 @@ use model::random::Random;
 use std::fs;
 use std::io::{BufRead, BufReader, Write};
 use std::os::unix::process::ExitStatusExt;
-use std::process::Stdio;
+use std::process::{Command, Stdio};
 use std::time::Duration;
 use support::reads::{self, Read};
 use support::{Folder, SIGHUP, SIGINT, SIGTERM, ended, send};
@@ -60,12 +60,17 @@ fn prefix(folder: &Folder, written: &[Read]) -> Option<usize> {
 #[test]
 fn killed_again_and_again() {
     let (folder, written) = laboratory(4, 12_000);
+    let packed = Command::new("gzip").args(["--keep", "reads.fastq"]).current_dir(folder.path(".")).status();
+    assert!(packed.unwrap().success());
+    let mut resume_packed = RESUME;
+    resume_packed[3] = "reads.fastq.gz";
     let (mut random, mut reached, mut in_the_middle) = (Random::new(5), 0, 0);
     // What is stored is passed over each time, so that the later ones need more.
     for round in 0..25 {
         let signal = random.pick(&[SIGKILL, SIGKILL, SIGINT, SIGTERM, SIGHUP]);
         let after = Duration::from_micros(random.below(20_000 + 5_000 * round));
-        let (answers, by_signal) = interrupted(&folder, &RESUME, signal, after);
+        let resume = if round % 3 == 2 { resume_packed } else { RESUME };
+        let (answers, by_signal) = interrupted(&folder, &resume, signal, after);
         let now = prefix(&folder, &written).expect("the first reads, each once, in their order");
         let answered = answers.iter().filter(|answer| answer.contains(" entry ")).count();
         assert!(now >= reached + answered, "{now} are stored, {reached} were before, and {answered} were answered");

@@ -105,3 +105,46 @@ fn reads_of_fastq() {
     let said = folder.failure(1, &["write", &address_of(&cluster, 1, "second"), "0", "7"]);
     assert!(said.contains("value 1: not stored: the server says: ") && said.contains("42501"), "{said}");
 }
+
+// Every reading of a file has the same answer on a server.
+#[test]
+fn plans_windows_and_totals() {
+    let Some(cluster) = laboratory("plans_windows_and_totals", "") else { return };
+    let folder = Folder::new();
+    let (log, other) = (&address_of(&cluster, 0, "run"), &address_of(&cluster, 0, "other"));
+    folder.quiet(&["create", log, "1"]);
+    folder.quiet(&["create", "run.db", "1"]);
+    folder.quiet(&["create", other, "1"]);
+    std::fs::write(folder.path("a.plan"), "B 0\nF 0\nC 0\nP 0\nW 0 1500000000000\nW 0 7\nW 3 1\n").unwrap();
+    let counts = "steps 7 entries 2 ledgers 1 refusals 1\n";
+    for log in [log, "run.db"] {
+        assert_eq!(folder.output(&["forecast", log, "a.plan"]), counts);
+    }
+    // A step of another client is the server's to refuse, and all of the plan with it.
+    let said = folder.failure(1, &["plan", log, "a.plan"]);
+    assert!(said.contains("the plan: not stored: the server says: ") && said.contains("42501"), "{said}");
+    for log in [log, "run.db"] {
+        assert_eq!(
+            folder.output(&["plan", "--budget", "6", log, "a.plan"]),
+            "steps 6 entries 2 ledgers 1 refusals 0\n"
+        );
+        let window = "start 0 sum 1.500000000007 client 0 ledger 1 place 0\n";
+        assert_eq!(folder.output(&["window", log, "2", "1.5"]), window);
+        assert_eq!(folder.output(&["window", log, "2", "1.500000000007"]), "none\n");
+        let steps = "1 B 0: ok\n2 F 0: ok\n3 C 0: ok\n4 P 0: ok\n5 W 0 1500000000000: entry 0 place 0\n6 W 0 7: entry 1 place 1\n";
+        assert_eq!(folder.output(&["steps", log]), steps);
+        let chain = folder.output(&["chain", "--csv", log]);
+        let lines: Vec<_> = chain.lines().collect();
+        assert!(
+            lines.len() == 3
+                && lines[1].starts_with("0,1,0,0,1500000000000,20")
+                && lines[2].starts_with("1,1,1,0,7,20"),
+            "{chain}"
+        );
+    }
+    let ledger = "ledger 1 entries 2 sum 1.500000000007\n";
+    let total = format!("log {log}\n{ledger}log run.db\n{ledger}log {other}\ntotal 3.000000000014\nrounded 3.000\n");
+    assert_eq!(folder.output(&["total", log, "run.db", other]), total);
+    assert!(folder.output(&["check", "--json", log]).contains("\"files\": \"server\""));
+    assert!(folder.output(&["show", "--json", log]).contains("\"entries\": 2, \"capacity\": 4096"));
+}
