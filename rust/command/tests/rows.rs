@@ -148,6 +148,11 @@ fn a_wrong_answer() {
     let found = format!("the log is whole, and answers stored in it are wrong, 5 rows\n{wrong}\nlast row ");
     assert!(checked.output.starts_with(&found), "{}", checked.output);
     assert_eq!((checked.status, checked.errors.as_str()), (Some(1), ""));
+    let as_json = folder.run(&["check", "--json", "run.log"]);
+    let answer = r#"{"row": 2, "process": "lab1 cindrolf[812]", "stored": "ref 12", "replayed": "ok"}"#;
+    assert_eq!((as_json.status, as_json.errors.as_str()), (Some(1), ""));
+    assert!(as_json.output.contains(&format!("\"wrong_answers\": [{answer}]")), "{}", as_json.output);
+    assert!(as_json.output.contains("\"ok\": false, \"rows\": 5"), "{}", as_json.output);
 }
 
 // What is still being written to a pipe is not waited for.

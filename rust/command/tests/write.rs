@@ -90,6 +90,30 @@ fn answered_as_they_come() {
     assert_eq!(ended(child).status, Some(0));
 }
 
+// Another leader fences the ledger between two reads: the writing ends there, and the new leader goes on.
+#[test]
+fn fenced_meanwhile() {
+    let folder = folder_with("");
+    let mut child = folder.program(&["write", "--fastq", "-", "run.log", "0"]).stdin(Stdio::piped()).spawn().unwrap();
+    let mut input = child.stdin.take().unwrap();
+    let mut answers = BufReader::new(child.stdout.take().unwrap()).lines();
+    let all = three();
+    input.write_all(reads::fastq(&all[..1]).as_bytes()).unwrap();
+    assert_eq!(answers.next().unwrap().unwrap(), "a entry 0 place 0");
+    folder.steps(&["N 1", "B 1", "F 1", "L 1", "K 1", "C 1", "P 1"]);
+    input.write_all(reads::fastq(&all[1..]).as_bytes()).unwrap();
+    drop(input);
+    assert!(answers.next().is_none());
+    let end = ended(child);
+    let said = "cindrolf: run.log: read 2, b:1: ref 12: write of client 0: another leader has fenced the ledger; \
+                this call has stored 1 read, the last is a at entry 0 place 0; to go on, give the same command with --resume\n";
+    assert_eq!((end.status, end.errors.as_str()), (Some(1), said));
+    fs::write(folder.path("rest.fastq"), reads::fastq(&all[1..])).unwrap();
+    let rest = folder.output(&["write", "--fastq", "rest.fastq", "run.log", "1"]);
+    assert_eq!(rest, "b:1 entry 1 place 0\ngröße entry 2 place 1\n");
+    assert_eq!(folder.output(&["chain", "run.log"]), THREE.replace(" 0:10000", " 1:10000").replace(" 0:2", " 1:2"));
+}
+
 #[test]
 fn lists_and_values() {
     let folder = folder_with("");
