@@ -7,7 +7,6 @@ mod checks;
 mod library;
 mod measure;
 mod plans;
-mod plot;
 mod sizes;
 mod storage;
 mod sums;
@@ -390,10 +389,10 @@ fn grow(title: &'static str, steps: &[u64], rounds: usize, log: impl Fn(u64) -> 
             if index == lines.len() {
                 lines.push(Line { name: times.name, points: vec![] });
             }
-            lines[index].points.push((step as f64, times.nanoseconds.median));
+            lines[index].points.push((step as f64, times.nanoseconds.median / 1000.0));
         }
     }
-    Panel { title, lines }
+    Panel { title, unit: "µs a call", decimals: 2, even: false, lines }
 }
 
 fn draw(path: &Path, rounds: usize) -> std::io::Result<()> {

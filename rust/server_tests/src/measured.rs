@@ -1,9 +1,10 @@
 //! A measured run: writers use the store and something else in turn, each for a slot of the clock that all share.
 
 use crate::cluster::{Cluster, address};
-use crate::controllers::role;
-use crate::plain::Plain;
+use crate::controllers::{furnish, role};
+use crate::plain::{self, Plain};
 use crate::proxy::Proxy;
+use std::io::{Seek, Write};
 use std::path::{Path, PathBuf};
 use std::sync::Barrier;
 use std::sync::atomic::{AtomicBool, AtomicU64, Ordering};
@@ -11,6 +12,7 @@ use std::thread::{Scope, ScopedJoinHandle, scope, sleep};
 use std::time::{Duration, Instant};
 use store::{Error, Store};
 use store_tests::rotating::{Logs, name_of};
+use store_tests::scratch::Scratch;
 use store_tests::sides::{SLOT, Side};
 
 /// How often a follower looks.
@@ -43,14 +45,60 @@ pub struct Setup {
     pub followers: usize,
     /// How long the network takes, each way.
     pub delay: Duration,
+    /// How much longer a sync of the server's takes.
+    pub sync: Duration,
     /// What is compared.
     pub beside: Beside,
 }
 
 impl Setup {
     /// One writer on this computer, beside plain inserts.
-    pub const ONE: Setup =
-        Setup { writers: 1, own_logs: false, followers: 0, delay: Duration::ZERO, beside: Beside::Plain };
+    pub const ONE: Setup = Setup {
+        writers: 1,
+        own_logs: false,
+        followers: 0,
+        delay: Duration::ZERO,
+        sync: Duration::ZERO,
+        beside: Beside::Plain,
+    };
+}
+
+/// Two connections for each of 128 writers, and some more.
+const CONNECTIONS: &str = "max_connections = 300";
+
+/// A server with the tables of logs and a plain one.
+pub fn server() -> Cluster {
+    let cluster = Cluster::new(CONNECTIONS);
+    furnish(&cluster, &store::schema());
+    plain::make(&cluster);
+    cluster
+}
+
+/// How many syncs are timed.
+const SYNCS: usize = 201;
+
+/// What the disk and the other programs of this computer are like just now.
+pub fn machine() -> String {
+    let load = std::fs::read_to_string("/proc/loadavg").unwrap_or_default();
+    let load = load.split(' ').take(3).collect::<Vec<_>>().join(" ");
+    let sync = sync().as_micros();
+    format!("A sync of a page takes {sync} µs, the median of {SYNCS}. The load before is {load}.")
+}
+
+/// How long the disk takes for a page, in a file that has its length already.
+fn sync() -> Duration {
+    let scratch = Scratch::new();
+    let mut file = std::fs::File::create(scratch.folder().join("page")).expect("a file");
+    let mut page = |round: usize| {
+        file.rewind().and_then(|()| file.write_all(&[round as u8; 8_192])).expect("a page");
+        let began = Instant::now();
+        file.sync_data().expect("a sync");
+        began.elapsed()
+    };
+    page(0);
+    let mut times: Vec<Duration> = (0..SYNCS).map(page).collect();
+    times.sort();
+    times[SYNCS / 2]
 }
 
 /// A run that goes on.
@@ -67,8 +115,26 @@ struct Run<'a> {
     failed: AtomicBool,
 }
 
+/// How long the server may take to read its settings.
+const SETTLED: Duration = Duration::from_millis(300);
+
 /// Measures for a time what each writer does on each side. Logs have this name, and numbers of their own.
 pub fn measured(cluster: &Cluster, setup: Setup, name: &str, time: Duration) -> Result<Vec<[Side; 2]>, String> {
+    let slow = |sync: Duration| {
+        // The one who syncs for a group of commits waits for so long before it does.
+        cluster.set(&format!("commit_delay = {}\ncommit_siblings = 0", sync.as_micros()));
+        sleep(SETTLED);
+    };
+    if setup.sync.is_zero() {
+        return run(cluster, setup, name, time);
+    }
+    slow(setup.sync);
+    let sides = run(cluster, setup, name, time);
+    slow(Duration::ZERO);
+    sides
+}
+
+fn run(cluster: &Cluster, setup: Setup, name: &str, time: Duration) -> Result<Vec<[Side; 2]>, String> {
     let proxy = (!setup.delay.is_zero()).then(|| Proxy::to(cluster.port()));
     if let Some(proxy) = &proxy {
         proxy.delay(setup.delay);

@@ -1,15 +1,11 @@
 //! Acknowledged writes a second, by the store on a server beside plain inserts through libpq: every 100 ms all writers change
 //! from one to the other.
 
-use cindrolf_server_tests::cluster::Cluster;
-use cindrolf_server_tests::controllers::furnish;
-use cindrolf_server_tests::measured::{BESIDE, Beside, STORE, Setup, measured};
-use cindrolf_server_tests::{plain, programs};
-use std::io::{Seek, Write};
+use cindrolf_server_tests::measured::{BESIDE, Beside, STORE, Setup, machine, measured, server};
+use cindrolf_server_tests::programs;
 use std::process::ExitCode;
-use std::time::{Duration, Instant};
+use std::time::Duration;
 use store_tests::rotating::MANY;
-use store_tests::scratch::Scratch;
 use store_tests::sides::{jain, longest, rate};
 
 const USAGE: &str = "usage: server_rates [--seconds N] [--row N]";
@@ -17,11 +13,11 @@ const USAGE: &str = "usage: server_rates [--seconds N] [--row N]";
 /// The status of a test that cannot be made here.
 const SKIPPED: u8 = 77;
 
-/// Two connections for each of 128 writers, and some more.
-const CONNECTIONS: &str = "max_connections = 300";
-
 /// The network's way to the server, and back.
 const HALF: Duration = Duration::from_micros(500);
+
+/// What a disk without a memory of its own takes, on top of a fast one.
+const SLOW: Duration = Duration::from_millis(4);
 
 fn main() -> ExitCode {
     if let Some(why) = programs::missing() {
@@ -61,7 +57,7 @@ struct Row {
 }
 
 /// Every row, by its name.
-fn rows() -> [Row; 8] {
+fn rows() -> [Row; 10] {
     let own = |writers| Setup { writers, own_logs: true, ..Setup::ONE };
     let followers = |beside| Setup { followers: 15, beside, ..Setup::ONE };
     let row = |name, setup, wanted| Row { name, setup, wanted };
@@ -74,16 +70,14 @@ fn rows() -> [Row; 8] {
         row("1, of a log", own(1), Some((0.8, None))),
         row("16, of 16 logs", own(16), Some((0.8, None))),
         row("128, of 128 logs", own(128), Some((0.8, None))),
+        row("1, a sync takes 4 ms more", Setup { sync: SLOW, ..Setup::ONE }, Some((0.65, Some(0.8)))),
+        row("16, of 16 logs, a sync takes 4 ms more", Setup { sync: SLOW, ..own(16) }, Some((0.8, None))),
     ]
 }
 
 fn tables((seconds, only): (u64, Option<usize>)) -> Result<(), String> {
-    let load = std::fs::read_to_string("/proc/loadavg").unwrap_or_default();
-    println!("A sync of a page takes {} µs here, the median of {SYNCS}.", sync().as_micros());
-    println!("Load before: {}", load.split(' ').take(3).collect::<Vec<_>>().join(" "));
-    let cluster = Cluster::new(CONNECTIONS);
-    furnish(&cluster, &store::schema());
-    plain::make(&cluster);
+    println!("{}", machine());
+    let cluster = server();
     let time = Duration::from_secs(seconds);
     println!("\n| Writers | Plain | Store | Store / plain | At least | Goal | Jain's index | Longest wait |");
     println!("|---|---|---|---|---|---|---|---|");
@@ -104,24 +98,4 @@ fn tables((seconds, only): (u64, Option<usize>)) -> Result<(), String> {
     println!("\n| One by one | In requests of {MANY} | Times | At least |\n|---|---|---|---|");
     println!("| {single:.0} | {many:.0} | {:.1} | 20 |", many / single);
     Ok(())
-}
-
-/// How many syncs are timed.
-const SYNCS: usize = 201;
-
-/// How long the disk takes for a page, in a file that has its length already.
-fn sync() -> Duration {
-    let scratch = Scratch::new();
-    let mut file = std::fs::File::create(scratch.folder().join("page")).expect("a file");
-    let mut times: Vec<Duration> = (0..=SYNCS)
-        .map(|round| {
-            file.rewind().and_then(|()| file.write_all(&[round as u8; 8_192])).expect("a page");
-            let began = Instant::now();
-            file.sync_data().expect("a sync");
-            began.elapsed()
-        })
-        .skip(1)
-        .collect();
-    times.sort();
-    times[SYNCS / 2]
 }

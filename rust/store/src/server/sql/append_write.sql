@@ -7,7 +7,7 @@
 CREATE FUNCTION cindrolf.append_write(
     log integer, known bigint, known_chain bytea, request bigint, client bigint, value bigint, process text, note text
 ) RETURNS bigint LANGUAGE plpgsql SECURITY DEFINER SET search_path = pg_catalog, pg_temp
-SET enable_seqscan = off SET enable_bitmapscan = off SET plan_cache_mode = force_generic_plan AS $$
+SET enable_seqscan = off AS $$ -- as in `append`; here the other settings change no plan
 #variable_conflict use_column
 BEGIN
     INSERT INTO cindrolf.rows (log, seq, request, part, kind, client, input, chain, time, process, note)

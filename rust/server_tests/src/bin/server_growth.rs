@@ -1,0 +1,155 @@
+//! How the cost of a log on a server grows with followers, delay, logs and rows: tables, and a picture of them.
+
+use cindrolf::{Capacity, Step};
+use cindrolf_server_tests::cluster::Cluster;
+use cindrolf_server_tests::measured::{BESIDE, STORE, Setup, machine, measured, server};
+use cindrolf_server_tests::programs;
+use limits::BATCH_LIMIT;
+use plot::{Line, Panel};
+use std::path::PathBuf;
+use std::process::ExitCode;
+use std::time::{Duration, Instant};
+use store::{Asked, Change, Error, Store};
+use store_tests::sides::rate;
+
+const USAGE: &str = "usage: server_growth [--seconds N] [--plot FILE]";
+
+/// The status of a test that cannot be made here.
+const SKIPPED: u8 = 77;
+
+const FOLLOWERS: [usize; 6] = [0, 1, 3, 7, 15, 31];
+/// Each way, in microseconds.
+const DELAYS: [u64; 6] = [0, 250, 500, 1_000, 2_500, 5_000];
+const LOGS: [usize; 8] = [1, 2, 4, 8, 16, 32, 64, 128];
+const ROWS: [i64; 4] = [1_000, 10_000, 100_000, 900_000];
+
+/// How many clients the long log has: a client has at most 60,000 rows.
+const CLIENTS: u64 = 16;
+
+/// How often a long log is opened.
+const OPENED: usize = 5;
+
+fn main() -> ExitCode {
+    if let Some(why) = programs::missing() {
+        eprintln!("SKIPPED: growth on a server: {why}");
+        return ExitCode::from(SKIPPED);
+    }
+    let words: Vec<String> = std::env::args().skip(1).collect();
+    let words: Vec<&str> = words.iter().map(String::as_str).collect();
+    match options(&words).and_then(|(seconds, path)| all(seconds, path)) {
+        Ok(()) => ExitCode::SUCCESS,
+        Err(why) => {
+            eprintln!("server_growth: {why}");
+            ExitCode::FAILURE
+        }
+    }
+}
+
+fn options(words: &[&str]) -> Result<(u64, Option<PathBuf>), String> {
+    let (mut seconds, mut path) = (4, None);
+    for pair in words.chunks(2) {
+        match *pair {
+            ["--seconds", text] => seconds = text.parse().ok().filter(|&seconds| seconds > 0).ok_or(USAGE)?,
+            ["--plot", text] => path = Some(text.into()),
+            _ => return Err(USAGE.into()),
+        }
+    }
+    Ok((seconds, path))
+}
+
+fn all(seconds: u64, path: Option<PathBuf>) -> Result<(), String> {
+    println!("{}", machine());
+    let cluster = server();
+    let per_write = |rate: f64| 1e6 / rate;
+    let panels = [
+        grow("followers that look every 10 ms", "µs a write", per_write, &FOLLOWERS, |followers| {
+            let name = format!("followers-{followers}");
+            sides(&cluster, Setup { followers, ..Setup::ONE }, &name, seconds)
+        })?,
+        grow("µs to the server, each way", "µs a write", per_write, &DELAYS, |delay| {
+            let setup = Setup { delay: Duration::from_micros(delay), ..Setup::ONE };
+            sides(&cluster, setup, &format!("delay-{delay}"), seconds)
+        })?,
+        grow(
+            "logs, with a writer each",
+            "writes a second",
+            |rate| rate,
+            &LOGS,
+            |writers| {
+                let setup = Setup { writers, own_logs: true, ..Setup::ONE };
+                sides(&cluster, setup, &format!("logs-{writers}"), seconds)
+            },
+        )?,
+        rows(&cluster, seconds).map_err(|error| error.to_string())?,
+    ];
+    match path {
+        Some(path) => std::fs::write(&path, plot::svg(&panels)).map_err(|error| format!("{}: {error}", path.display())),
+        None => Ok(()),
+    }
+}
+
+/// Writes a second by the store, and plain.
+fn sides(cluster: &Cluster, setup: Setup, name: &str, seconds: u64) -> Result<[f64; 2], String> {
+    let sides = measured(cluster, setup, name, Duration::from_secs(seconds))?;
+    Ok([STORE, BESIDE].map(|side| rate(&sides, side, seconds)))
+}
+
+/// A table and a panel over numbers that grow.
+fn grow<T: Copy + std::fmt::Display>(
+    title: &'static str,
+    unit: &'static str,
+    shown: impl Fn(f64) -> f64,
+    steps: &[T],
+    mut rates: impl FnMut(T) -> Result<[f64; 2], String>,
+) -> Result<Panel, String> {
+    println!("\n| {title} | Plain, {unit} | Store, {unit} | Store / plain |\n|---|---|---|---|");
+    let mut lines = ["store", "plain"].map(|name| Line { name, points: Vec::new() });
+    for &step in steps {
+        let [store, plain] = rates(step)?;
+        println!("| {step} | {:.0} | {:.0} | {:.2} |", shown(plain), shown(store), store / plain);
+        let x = step.to_string().parse().unwrap_or_default();
+        lines.iter_mut().zip([store, plain]).for_each(|(line, rate)| line.points.push((x, shown(rate))));
+    }
+    Ok(Panel { title, unit, decimals: 0, even: true, lines: lines.into() })
+}
+
+/// What a step and opening take in a log that gets longer. Its steps name one client after the other, since a log takes only
+/// so many writes.
+fn rows(cluster: &Cluster, seconds: u64) -> Result<Panel, Error> {
+    let elects = "CREATE ROLE elects LOGIN; GRANT cindrolf_controller TO elects; SELECT cindrolf.admit('elects', -2)";
+    cluster.sql(elects).expect("a role");
+    let address = cluster.address("elects", "long");
+    let mut store = Store::create(&address, CLIENTS, Capacity::Large)?;
+    let name = |row: i64| Change::Step((row as u64 + 1) % CLIENTS, Step::NAME);
+    println!("\n| Rows | A step, µs | Opening, ms | Bytes a row |\n|---|---|---|---|");
+    let mut points = Vec::new();
+    let mut length = 0;
+    for rows in ROWS {
+        while length < rows {
+            let last = rows.min(length + BATCH_LIMIT as i64);
+            let request: Vec<Asked> = (length..last).map(|row| name(row).into()).collect();
+            assert!(store.take_all(&request)?.iter().all(Result::is_ok), "row {length}");
+            length = last;
+        }
+        let (began, mut steps) = (Instant::now(), 0);
+        while began.elapsed() < Duration::from_secs(seconds) && steps < rows / 10 {
+            assert!(store.take_all(&[name(length).into()])?[0].is_ok(), "row {length}");
+            (length, steps) = (length + 1, steps + 1);
+        }
+        let step = began.elapsed().as_secs_f64() * 1e6 / steps as f64;
+        let mut opening: Vec<Duration> = (0..OPENED).map(|_| opened(&address)).collect::<Result<_, _>>()?;
+        opening.sort();
+        let opening = opening[OPENED / 2].as_secs_f64() * 1e3;
+        let size = "SELECT pg_total_relation_size('cindrolf.rows') / (SELECT count(*) FROM cindrolf.rows)";
+        println!("| {rows} | {step:.0} | {opening:.0} | {} |", cluster.sql(size).expect("a size"));
+        points.push((rows as f64, step));
+    }
+    let lines = vec![Line { name: "store", points }];
+    Ok(Panel { title: "rows in the log", unit: "µs a step", decimals: 0, even: true, lines })
+}
+
+fn opened(address: &str) -> Result<Duration, Error> {
+    let began = Instant::now();
+    Store::open(address)?;
+    Ok(began.elapsed())
+}
