@@ -244,7 +244,12 @@ impl Writer {
             Beside::Plain | Beside::Followed => Other::Plain(Plain::open(port).map_err(text)?),
             Beside::Requests => Other::Requests(Logs::open(many, 0).map_err(text)?),
         };
-        Ok(Writer { logs: Logs::open(logs.into(), 0).map_err(text)?, other })
+        let mut writer = Writer { logs: Logs::open(logs.into(), 0).map_err(text)?, other };
+        // So that it leads when the run begins.
+        for side in [STORE, BESIDE] {
+            writer.write(side, 0)?;
+        }
+        Ok(writer)
     }
 
     /// Writes on a side, and says how many writes that were.
