@@ -19,7 +19,7 @@ const TITLE: &str = "\
 ";
 
 /// Every object, in the order in which they are made.
-const OBJECTS: [&str; 27] = [
+const OBJECTS: [&str; 28] = [
     include_str!("sql/roles.sql"),
     include_str!("sql/logs.sql"),
     include_str!("sql/rows.sql"),
@@ -30,6 +30,7 @@ const OBJECTS: [&str; 27] = [
     include_str!("sql/step.sql"),
     include_str!("sql/create_log.sql"),
     include_str!("sql/start.sql"),
+    include_str!("sql/request.sql"),
     include_str!("sql/append.sql"),
     include_str!("sql/append_write.sql"),
     include_str!("sql/settle.sql"),

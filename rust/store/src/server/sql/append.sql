@@ -7,8 +7,7 @@
 --
 -- The lock is the server's own: it ends with the commit, which waits for no further byte of the caller. The log's row
 -- is only locked and never updated, so that it leaves no dead version behind. The lock also makes every answer wait for
--- the disk, and for the standby: that of a request which is found again, too. It is one long function, since each call
--- of another takes its time under the lock.
+-- the disk, and for the standby: that of a request which is found again, too.
 CREATE FUNCTION cindrolf.append(
     log integer,
     known bigint,
@@ -32,10 +31,8 @@ DECLARE
     latest bigint;
     latest_role text;
     place bigint;
-    steps integer := cardinality(kinds);
+    steps integer;
     moment timestamptz;
-    slot integer;
-    allowed bigint; -- a client whose steps the caller takes
     chains bytea[];
 BEGIN
     SELECT chain INTO fresh FROM cindrolf.logs WHERE log = append.log FOR NO KEY UPDATE;
@@ -64,54 +61,14 @@ BEGIN
             ELSE RETURN -1;
         END CASE;
     END IF;
-    IF (steps > 0 AND steps = cardinality(clients) AND steps = cardinality(inputs)
-        AND steps = coalesce(cardinality(notes), steps)) IS NOT TRUE OR octet_length(process) > {PROCESS_LIMIT}
-    THEN
-        RAISE EXCEPTION 'no list of steps' USING ERRCODE = '22023';
-    END IF;
-    -- In a log that is shorter than that no limit is near.
-    IF last + steps <= {OTHER_ROW_LIMIT} THEN
-        counts := NULL;
-    ELSIF counts IS NULL THEN
-        counts := cindrolf.counted(append.log);
-    END IF;
+    steps := cindrolf.steps_of(kinds, clients, inputs, process, notes);
+    counts := cindrolf.counts_with(append.log, last, counts, kinds, clients);
+    chains := cindrolf.chains_after(chain, request, kinds, clients, inputs);
     moment := clock_timestamp();
-    FOR step IN 1 .. steps LOOP
-        IF NOT cindrolf.is_step(kinds[step], clients[step], inputs[step])
-            OR octet_length(notes[step]) > {NOTE_LIMIT}
-        THEN
-            RAISE EXCEPTION 'step % of the request is none', step - 1 USING ERRCODE = '22023';
-        END IF;
-        IF (kinds[step] BETWEEN 1 AND 10 AND clients[step] = allowed) IS NOT TRUE THEN
-            PERFORM FROM cindrolf.members
-            WHERE role = session_user AND client = clients[step] AND kinds[step] BETWEEN 1 AND 10 AND client >= 0;
-            IF NOT FOUND AND NOT cindrolf.may_take(session_user, kinds[step], clients[step]) THEN
-                RAISE EXCEPTION 'role % takes no step % for client %', session_user, kinds[step], clients[step]
-                    USING ERRCODE = '42501';
-            END IF;
-            allowed := CASE WHEN kinds[step] BETWEEN 1 AND 10 THEN clients[step] END;
-        END IF;
-        IF counts IS NOT NULL THEN
-            slot := cindrolf.slot(kinds[step], clients[step]) + 1;
-            counts[slot] := counts[slot] + 1;
-            IF counts[slot] > cindrolf.room(slot - 1) THEN
-                RAISE EXCEPTION 'there is no room for another row of client %', clients[step] USING ERRCODE = '54000';
-            END IF;
-        END IF;
-        chain := cindrolf.chain_value(chain, request, step - 1, kinds[step], clients[step], inputs[step]);
-        chains[step] := chain;
-    END LOOP;
-    -- Only the last row needs the counts.
-    IF steps = 1 THEN
-        INSERT INTO cindrolf.rows (log, seq, request, part, kind, client, input, chain, time, process, note, counts)
-        VALUES (append.log, last + 1, append.request, 0, kinds[1], clients[1], inputs[1], chain, moment,
-            append.process, notes[1], counts);
-    ELSE
-        INSERT INTO cindrolf.rows (log, seq, request, part, kind, client, input, chain, time, process, note, counts)
-        -- By their places, as they were looked at above: an array need not begin with 1.
-        SELECT append.log, last + step, append.request, step - 1, kinds[step], clients[step], inputs[step],
-            chains[step], moment, append.process, notes[step], CASE step WHEN steps THEN counts END
-        FROM generate_series(1, steps) AS step;
-    END IF;
+    -- Only the last row needs the counts. By their places, as they were looked at: an array need not begin with 1.
+    INSERT INTO cindrolf.rows (log, seq, request, part, kind, client, input, chain, time, process, note, counts)
+    SELECT append.log, last + step, append.request, step - 1, kinds[step], clients[step], inputs[step],
+        chains[step], moment, append.process, notes[step], CASE step WHEN steps THEN counts END
+    FROM generate_series(1, steps) AS step;
     RETURN last;
 END $$;
