@@ -179,7 +179,7 @@ impl Run<'_> {
     fn side(&self, began: Instant) -> Option<usize> {
         let gone = began.elapsed();
         let ends = gone >= self.time || self.failed.load(Ordering::Relaxed);
-        (!ends).then(|| (gone.as_millis() / SLOT.as_millis() % 2) as usize)
+        (!ends).then(|| side_at(gone))
     }
 
     fn write(&self, number: usize) -> Result<[Side; 2], String> {
@@ -223,6 +223,11 @@ fn look(followed: &mut Option<(u64, Store)>, logs: &Path, number: u64) -> Result
         store.latest()?;
     }
     Ok(())
+}
+
+/// The side whose turn it is so long after the beginning.
+pub fn side_at(gone: Duration) -> usize {
+    (gone.as_millis() / SLOT.as_millis() % 2) as usize
 }
 
 /// What one writer has open.

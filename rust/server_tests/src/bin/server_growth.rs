@@ -1,8 +1,10 @@
-//! How the cost of a log on a server grows with followers, delay, logs and rows: tables, and a picture of them.
+//! How the cost of a log on a server grows with followers, delay, logs and rows: tables, and a picture of them. The picture
+//! shows how many times as long as plain inserts of the same moments it takes, which a busy computer changes little.
 
 use cindrolf::{Capacity, Step};
 use cindrolf_server_tests::cluster::Cluster;
-use cindrolf_server_tests::measured::{BESIDE, STORE, Setup, machine, measured, server};
+use cindrolf_server_tests::measured::{BESIDE, STORE, Setup, machine, measured, server, side_at};
+use cindrolf_server_tests::plain::Plain;
 use cindrolf_server_tests::programs;
 use limits::BATCH_LIMIT;
 use plot::{Line, Panel};
@@ -10,7 +12,7 @@ use std::path::PathBuf;
 use std::process::ExitCode;
 use std::time::{Duration, Instant};
 use store::{Asked, Change, Error, Store};
-use store_tests::sides::rate;
+use store_tests::sides::{Side, rate};
 
 const USAGE: &str = "usage: server_growth [--seconds N] [--plot FILE]";
 
@@ -103,14 +105,20 @@ fn grow<T: Copy + std::fmt::Display>(
     mut rates: impl FnMut(T) -> Result<[f64; 2], String>,
 ) -> Result<Panel, String> {
     println!("\n| {title} | Plain, {unit} | Store, {unit} | Store / plain |\n|---|---|---|---|");
-    let mut lines = ["store", "plain"].map(|name| Line { name, points: Vec::new() });
+    let mut points = Vec::new();
     for &step in steps {
         let [store, plain] = rates(step)?;
         println!("| {step} | {:.0} | {:.0} | {:.2} |", shown(plain), shown(store), store / plain);
-        let x = step.to_string().parse().unwrap_or_default();
-        lines.iter_mut().zip([store, plain]).for_each(|(line, rate)| line.points.push((x, shown(rate))));
+        points.push((step.to_string().parse().unwrap_or_default(), plain / store));
     }
-    Ok(Panel { title, unit, decimals: 0, even: true, lines: lines.into() })
+    Ok(panel(title, points))
+}
+
+/// A panel of how many times as long as plain inserts it takes.
+fn panel(title: &'static str, points: Vec<(f64, f64)>) -> Panel {
+    let plain = Line { name: "plain inserts", points: points.iter().map(|&(x, _)| (x, 1.0)).collect() };
+    let lines = vec![Line { name: "the store", points }, plain];
+    Panel { title, unit: "times a plain insert", decimals: 2, even: true, lines }
 }
 
 /// What a step and opening take in a log that gets longer. Its steps name one client after the other, since a log takes only
@@ -121,9 +129,10 @@ fn rows(cluster: &Cluster, seconds: u64) -> Result<Panel, Error> {
     let address = cluster.address("elects", "long");
     let mut store = Store::create(&address, CLIENTS, Capacity::Large)?;
     let name = |row: i64| Change::Step((row as u64 + 1) % CLIENTS, Step::NAME);
-    println!("\n| Rows | A step, µs | Opening, ms | Bytes a row |\n|---|---|---|---|");
-    let mut points = Vec::new();
-    let mut length = 0;
+    let mut plain = Plain::open(cluster.port()).expect("a connection");
+    println!("\n| Rows | Plain, µs a write | Store, µs a step | Store / plain | Opening, ms | Bytes a row |");
+    println!("|---|---|---|---|---|---|");
+    let (mut points, mut length) = (Vec::new(), 0);
     for rows in ROWS {
         while length < rows {
             let last = rows.min(length + BATCH_LIMIT as i64);
@@ -131,21 +140,28 @@ fn rows(cluster: &Cluster, seconds: u64) -> Result<Panel, Error> {
             assert!(store.take_all(&request)?.iter().all(Result::is_ok), "row {length}");
             length = last;
         }
-        let (began, mut steps) = (Instant::now(), 0);
-        while began.elapsed() < Duration::from_secs(seconds) && steps < rows / 10 {
-            assert!(store.take_all(&[name(length).into()])?[0].is_ok(), "row {length}");
-            (length, steps) = (length + 1, steps + 1);
+        let mut sides = [Side::default(); 2];
+        let began = Instant::now();
+        while began.elapsed() < Duration::from_secs(seconds) {
+            let side = side_at(began.elapsed());
+            if side == STORE {
+                assert!(store.take_all(&[name(length).into()])?[0].is_ok(), "row {length}");
+                length += 1;
+            } else {
+                plain.write(0).expect("a row");
+            }
+            sides[side].add(1, Duration::ZERO);
         }
-        let step = began.elapsed().as_secs_f64() * 1e6 / steps as f64;
+        let [of_store, of_plain] = [STORE, BESIDE].map(|side| 1e6 / rate(&[sides], side, seconds));
         let mut opening: Vec<Duration> = (0..OPENED).map(|_| opened(&address)).collect::<Result<_, _>>()?;
         opening.sort();
         let opening = opening[OPENED / 2].as_secs_f64() * 1e3;
         let size = "SELECT pg_total_relation_size('cindrolf.rows') / (SELECT count(*) FROM cindrolf.rows)";
-        println!("| {rows} | {step:.0} | {opening:.0} | {} |", cluster.sql(size).expect("a size"));
-        points.push((rows as f64, step));
+        let (ratio, size) = (of_plain / of_store, cluster.sql(size).expect("a size"));
+        println!("| {rows} | {of_plain:.0} | {of_store:.0} | {ratio:.2} | {opening:.0} | {size} |");
+        points.push((rows as f64, of_store / of_plain));
     }
-    let lines = vec![Line { name: "store", points }];
-    Ok(Panel { title: "rows in the log", unit: "µs a step", decimals: 0, even: true, lines })
+    Ok(panel("rows in the log", points))
 }
 
 fn opened(address: &str) -> Result<Duration, Error> {
