@@ -208,6 +208,8 @@ build_libraries() {
     put_program "$target/made/shared" "lib/libcindrolf.so.$number"
     put_program "$target/rust/release/libcindrolf_store_library.a" lib/libcindrolf_store.a
     put_program "$target/rust/release/libcindrolf_store_library.so" "lib/libcindrolf_store.so.$store_number"
+    # What debuggers read is most of their bytes.
+    (cd "$target/installed/lib" && strip --strip-debug libcindrolf_store.a "libcindrolf_store.so.$store_number") 2>/dev/null
     ln -sf "libcindrolf.so.$number" "$target/installed/lib/libcindrolf.so" || fail 2 "cannot write in $target/installed/lib"
     ln -sf "libcindrolf_store.so.$store_number" "$target/installed/lib/libcindrolf_store.so" || fail 2 "cannot write in $target/installed/lib"
     for header in "$root"/include/*; do put_program "$header" "include/${header##*/}"; done
