@@ -6,7 +6,7 @@
 #include <stdlib.h>
 #include <time.h>
 
-#define ROUNDS 5
+#define ROUNDS 50
 #define LOG state, CINDROLF_STATE_WORDS, entries, CINDROLF_ENTRY_WORDS
 
 static uint64_t state[CINDROLF_STATE_WORDS], entries[CINDROLF_ENTRY_WORDS], answer;
@@ -56,16 +56,16 @@ static void measure(const char *name, void (*before)(void), void (*call)(void), 
 int main(int count, char **words) {
     if (count != 2)
         return 2;
-    measure("write, in memory", fresh, write_in_memory, 1000);
-    measure("advice, in memory", NULL, advise_in_memory, 1000);
+    measure("write, in memory", fresh, write_in_memory, 500);
+    measure("advice, in memory", NULL, advise_in_memory, 500);
     must(cindrolf_store_create(words[1], 2, CINDROLF_ENTRY_WORDS, &store, NULL, 0) == CINDROLF_STORE_OK);
     for (uint64_t step = CINDROLF_STEP_BECOME; step != CINDROLF_STEP_WRITE;) {
         must(cindrolf_store_take(store, step, 0, 0, &answer) == CINDROLF_STORE_OK);
         snapshot();
         step = cindrolf_advise(LOG, 0);
     }
-    measure("refused step of a store", NULL, refused, 1000);
-    measure("snapshot of a store", NULL, snapshot, 1000);
-    measure("write of a store", NULL, write_stored, 200);
+    measure("refused step of a store", NULL, refused, 50);
+    measure("snapshot of a store", NULL, snapshot, 50);
+    measure("write of a store", NULL, write_stored, 50);
     return cindrolf_store_close(store, NULL, 0);
 }

@@ -6,7 +6,7 @@ import time
 import cindrolf
 from cindrolf import Step
 
-ROUNDS = 5
+ROUNDS = 50
 
 
 def leads(log):
@@ -36,13 +36,13 @@ def measure(name, before, call, count):
 
 
 def main(file):
-    log = measure("write, in memory", lambda: leads(cindrolf.Log(2)), lambda log: log.write(0, 201), 1000)
-    measure("advice, in memory", lambda: log, lambda log: log.advise(0), 1000)
+    log = measure("write, in memory", lambda: leads(cindrolf.Log(2)), lambda log: log.write(0, 201), 500)
+    measure("advice, in memory", lambda: log, lambda log: log.advise(0), 500)
     with cindrolf.create(file, 2) as store:
         leads(store)
-        measure("refused step of a store", lambda: store, refused, 1000)
-        measure("snapshot of a store", lambda: store, lambda log: log.snapshot(), 1000)
-        measure("write of a store", lambda: store, lambda log: log.write(0, 201), 200)
+        measure("refused step of a store", lambda: store, refused, 50)
+        measure("snapshot of a store", lambda: store, lambda log: log.snapshot(), 50)
+        measure("write of a store", lambda: store, lambda log: log.write(0, 201), 50)
 
 
 main(sys.argv[1])

@@ -5,7 +5,7 @@ use std::process::ExitCode;
 use std::time::Instant;
 use store::{Error, Store};
 
-const ROUNDS: usize = 5;
+const ROUNDS: usize = 50;
 
 fn main() -> ExitCode {
     let Some(file) = std::env::args().nth(1) else { return ExitCode::from(2) };
@@ -19,31 +19,28 @@ fn main() -> ExitCode {
 }
 
 fn costs(file: &str) -> Result<(), Error> {
+    measure("write, in memory", 500, fresh, |log| log.write(0, 201).map(|_| ()).map_err(Error::from))?;
     let mut log = fresh()?;
-    measure("write, in memory", 1000, |round| {
-        if round == 0 {
-            log = fresh()?;
-        }
+    for _ in 0..500 {
         log.write(0, 201)?;
-        Ok(())
-    })?;
-    measure("advice, in memory", 1000, |_| Ok(log.advise(0).map(|_| ())?))?;
+    }
+    measure("advice, in memory", 500, nothing, |()| log.advise(0).map(|_| ()).map_err(Error::from))?;
     let mut store = Store::create(file, 2, Capacity::Large)?;
     while let Some(kind) = store.latest()?.log().advise(0)?.filter(|&kind| kind != Kind::Write) {
         let _ = store.take(0, Step::new(kind, 0))?;
     }
-    measure("refused step of a store", 1000, |_| match store.become_leader(1) {
+    measure("refused step of a store", 50, nothing, |()| match store.become_leader(1) {
         Err(Error::Refused(_)) => Ok(()),
         other => other,
     })?;
     let (mut state, mut entries) = (log.state().to_vec(), log.entries().to_vec());
-    measure("snapshot of a store", 1000, |_| {
+    measure("snapshot of a store", 50, nothing, |()| {
         let latest = store.latest()?;
         state.copy_from_slice(latest.log().state());
         entries.copy_from_slice(latest.log().entries());
         Ok(())
     })?;
-    measure("write of a store", 200, |_| store.write(0, 201).map(|_| ()))
+    measure("write of a store", 50, nothing, |()| store.write(0, 201).map(|_| ()))
 }
 
 /// A log in memory in which client 0 may write.
@@ -55,12 +52,24 @@ fn fresh() -> Result<Log, Error> {
     Ok(log)
 }
 
-/// Prints the nanoseconds of a call, the best of some rounds. The call is told how many came before it in its round.
-fn measure(name: &str, count: u32, mut call: impl FnMut(u32) -> Result<(), Error>) -> Result<(), Error> {
+fn nothing() -> Result<(), Error> {
+    Ok(())
+}
+
+/// Prints the nanoseconds of a call, the best of some rounds. What a round begins with is not part of its time.
+fn measure<T>(
+    name: &str,
+    count: u32,
+    before: impl Fn() -> Result<T, Error>,
+    mut call: impl FnMut(&mut T) -> Result<(), Error>,
+) -> Result<(), Error> {
     let mut best = u128::MAX;
     for _ in 0..ROUNDS {
+        let mut thing = before()?;
         let since = Instant::now();
-        (0..count).try_for_each(&mut call)?;
+        for _ in 0..count {
+            call(&mut thing)?;
+        }
         best = best.min(since.elapsed().as_nanos() / u128::from(count));
     }
     println!("{name}:{best}");
