@@ -46,18 +46,19 @@ def _folders() -> Iterator[Path]:
 def _load() -> Tuple[ctypes.CDLL, ctypes.CDLL]:
     names = (f"libcindrolf.so.{VERSION}", f"libcindrolf_store.so.{STORE_VERSION}")
     given = os.environ.get(ENVIRONMENT)
-    for folder in [Path(given)] if given else _folders():
+    folders = [Path(given)] if given else list(_folders())
+    for folder in folders:
         if all((folder / name).is_file() for name in names):
             log, store = (ctypes.CDLL(str(folder / name)) for name in names)
             return log, store
-    try:
-        # The loader has its own folders, and those of LD_LIBRARY_PATH.
-        log, store = (ctypes.CDLL(name) for name in names)
-        if not given:
+    if not given:
+        try:
+            # The loader has its own folders, and those of LD_LIBRARY_PATH.
+            log, store = (ctypes.CDLL(name) for name in names)
             return log, store
-    except OSError:
-        pass
-    places = given or ", ".join(map(str, _folders()))
+        except OSError:
+            pass
+    places = ", ".join(map(str, folders))
     raise ImportError(
         f"there are no {names[0]} and {names[1]} in {places}: run ./install PREFIX (or tools/libraries in a checkout), "
         f"and set {ENVIRONMENT} to PREFIX/lib where it is not found by itself"

@@ -55,7 +55,7 @@ def given(answer: int) -> int:
 
 
 def view(words: Any, count: Optional[int] = None) -> memoryview:
-    """A copy of words as a sequence of numbers that cannot be written, for numpy and pandas too."""
+    """A copy of words as a sequence of numbers that cannot be written, for numpy too."""
     memory = memoryview(bytes(words)).cast("Q")
     return memory if count is None else memory[:count]
 
@@ -84,7 +84,7 @@ class Reading:
 
     def entries(self) -> memoryview:
         """The words of all entries, in the order of their numbers, with their ledgers: see `ledger_of`, `client_of` and `value_of`.
-        It is a sequence of numbers, and numpy and pandas take it at once: ``numpy.asarray(log.entries())``."""
+        It is a sequence of numbers, and memory that numpy takes as it is: ``numpy.asarray(log.entries())``, which pandas takes in turn."""
         words = self._words()
         return view(words.entries, _count(words))
 

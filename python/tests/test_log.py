@@ -90,6 +90,12 @@ class Logs(unittest.TestCase):
         given = numpy.asarray(words)
         self.assertEqual((given.dtype, given.tolist()), (numpy.dtype("uint64"), [201]))
         self.assertTrue(numpy.shares_memory(given, numpy.asarray(words)))
+        try:
+            import pandas
+        except ImportError:
+            pass
+        else:
+            self.assertTrue(numpy.shares_memory(pandas.Series(given).to_numpy(), given))
         self.assertTrue(log.write_scores(0, numpy.array([40, 40], dtype="uint16")).stored)
         plan = numpy.array(cindrolf.plan([(Step.WRITE, 0, 5)]))
         self.assertEqual(log.run_plan(plan), 1)

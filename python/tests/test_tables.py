@@ -1,7 +1,10 @@
 """What Python says once more, against the headers: functions, numbers and names; and that the sources are of Python 3.9."""
 
 import ast
+import os
 import re
+import subprocess
+import sys
 import unittest
 from pathlib import Path
 
@@ -55,6 +58,20 @@ class Tables(unittest.TestCase):
     def test_an_exception_for_each_status(self):
         kinds = {kind.status for kind in cindrolf.Error.__subclasses__()}
         self.assertEqual(kinds, set(cindrolf.Status) - {cindrolf.Status.OK})
+
+    def test_where_the_libraries_are(self):
+        package = Path(cindrolf.__file__).parents[1]
+        folder = Path(_library.store._name).parent
+
+        def imported(**names):
+            environment = {**os.environ, "PYTHONPATH": str(package), **names}
+            command = [sys.executable, "-c", "import cindrolf; print(cindrolf._library.store._name)"]
+            return subprocess.run(command, capture_output=True, text=True, env=environment)
+
+        self.assertEqual(imported(CINDROLF_LIBRARY_DIR=str(folder)).stdout.strip(), _library.store._name)
+        missing = imported(CINDROLF_LIBRARY_DIR=str(package))
+        self.assertEqual((missing.returncode, missing.stdout), (1, ""))
+        self.assertIn(f"ImportError: there are no libcindrolf.so.3 and libcindrolf_store.so.1 in {package}: run ./install", missing.stderr)
 
     def test_the_sources_are_of_python_3_9(self):
         sources = list((ROOT / "python").rglob("*.py"))
