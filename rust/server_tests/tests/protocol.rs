@@ -186,6 +186,69 @@ fn a_create_cut_at_any_byte() {
     assert_eq!(cluster.sql("SELECT count(*) FROM cindrolf.logs").unwrap(), (cuts + 2).to_string());
 }
 
+// A log that is copied to the server, all of it once, wherever the network is cut.
+#[test]
+fn a_copy_cut_at_any_byte() {
+    let Some(cluster) = laboratory("a_copy_cut_at_any_byte", "") else { return };
+    let folder = std::env::temp_dir().join(format!("cindrolf-cut-copy-{}", std::process::id()));
+    std::fs::create_dir(&folder).unwrap();
+    let mut file = Store::create(folder.join("run.db"), 2, Capacity::Small).unwrap();
+    lead(&mut file, 0);
+    file.write(0, 7).unwrap();
+    let proxy = Proxy::to(cluster.port());
+    let to = |log: &str| format!("{}/{log}", address("administrator", &[proxy.port()]));
+    for way in [Way::ToServer, Way::ToClient] {
+        let before = proxy.let_through(way);
+        file.copy_to(to(&format!("{way:?}"))).unwrap();
+        let length = proxy.let_through(way) - before;
+        for bytes in (0..length).step_by(61).chain([length - 1]) {
+            proxy.limit(way, bytes, Then::End);
+            let log = format!("{way:?} {bytes}");
+            std::thread::scope(|scope| {
+                scope.spawn(|| {
+                    std::thread::sleep(Duration::from_millis(15));
+                    proxy.heal();
+                });
+                assert_eq!(file.copy_to(to(&log)), Ok(()), "{bytes} of {length}");
+            });
+            assert_eq!(Store::open(cluster.address("administrator", &log)).unwrap().last_row(), file.last_row());
+            assert_eq!(file.copy_to(to(&log)), Err(Error::Exists));
+        }
+    }
+    std::fs::remove_dir_all(&folder).unwrap();
+}
+
+// Where nothing is heard of a creation for as long as it waits, nobody says that there is no log.
+#[test]
+fn a_creation_that_is_not_known() {
+    let Some(cluster) = laboratory("a_creation_that_is_not_known", "") else { return };
+    let proxy = Proxy::to(cluster.port());
+    let create = |log: &str| Store::create(at(0, proxy.port(), log), 2, Capacity::Large).map(drop);
+    let before = proxy.let_through(Way::ToClient);
+    create("a").unwrap();
+    let length = proxy.let_through(Way::ToClient) - before;
+    // The whole creation is sent. Of the answers only some come, or all but that to the creation itself.
+    for bytes in [length / 2, length * 3 / 4] {
+        proxy.limit(Way::ToClient, bytes, Then::Silence);
+        let log = format!("after {bytes}");
+        let created = create(&log);
+        proxy.cut();
+        proxy.heal();
+        match created {
+            Ok(()) => {}
+            Err(error @ Error::Unknown { request: 0, .. }) => {
+                assert_eq!(error.stored(), Stored::Unknown);
+                assert!(error.to_string().ends_with("look whether it is there"), "{error}");
+            }
+            // Nothing of it was sent.
+            Err(Error::Unreachable(_)) => {
+                assert_eq!(Store::open(address_of(&cluster, 0, &log)).err(), Some(Error::Missing))
+            }
+            Err(error) => panic!("{bytes} of {length}: {error}"),
+        }
+    }
+}
+
 // Where nothing is heard until the deadline, it is not known; later the id tells.
 #[test]
 fn what_is_not_known_is_settled_later() {

@@ -64,9 +64,10 @@ pub enum Error {
     Unreachable(String),
     /// The server refuses what it was asked, and nothing is stored. This is what it says.
     Forbidden(String),
-    /// It is not known whether the request of this id is stored, or will be.
+    /// It is not known whether the request of this id is stored, or will be; or whether a log was made on a server.
     Unknown {
-        /// The request's id, by which [`Store::settle`](crate::Store::settle) tells later what became of it.
+        /// The request's id, by which [`Store::settle`](crate::Store::settle) tells later what became of it. 0 where a log
+        /// was to be made.
         request: u64,
         /// What was heard last.
         why: String,
@@ -187,6 +188,9 @@ impl fmt::Display for Error {
             Error::Address(why) => write!(f, "the address is none of a log: {why}"),
             Error::Unreachable(why) => f.write_str(why),
             Error::Forbidden(why) => f.write_str(why),
+            Error::Unknown { request: 0, why } => {
+                write!(f, "it is not known whether the log is made: {why}; look whether it is there")
+            }
             Error::Unknown { request, why } => {
                 write!(f, "it is not known whether request {request} is stored: {why}")
             }

@@ -67,7 +67,7 @@ impl ServerEngine {
     /// Makes a fresh log, and says whether there was none of this name. It finds its own where the answer was lost.
     pub fn create(&mut self, client_count: u64, capacity: Capacity) -> Result<bool, Error> {
         let create = format!("SELECT {}", create_call(&self.address.log, client_count, capacity));
-        Ok(self.read(&create)?.text(0, 0) == Some("t"))
+        Ok(self.make(&create, SILENT)?.text(0, 0) == Some("t"))
     }
 
     /// Runs a command that may be run twice, until it is answered or the patience is over.
@@ -82,9 +82,23 @@ impl ServerEngine {
         }
     }
 
-    /// Runs a command that may not be run twice, and that takes longer than others.
-    pub fn run_once(&mut self, command: &str, time: Duration) -> Result<Rows, Error> {
-        self.run_for(command, time).map_err(of)
+    /// Runs a command that makes a log, and that finds its own where it comes again: so it is sent again where nothing is
+    /// heard of it. Where that goes on for as long as the patience, it is not known whether there is a log now.
+    pub fn make(&mut self, command: &str, time: Duration) -> Result<Rows, Error> {
+        let (mut lost, mut deadline) = (false, None);
+        loop {
+            let fault = match self.run_for(command, time) {
+                Ok(rows) => return Ok(rows),
+                Err(fault) => fault,
+            };
+            lost |= matches!(fault, Fault::Lost(_));
+            let deadline = *deadline.get_or_insert_with(|| Instant::now() + self.patience);
+            if !is_passing(&fault) || Instant::now() >= deadline {
+                let silent = lost && !matches!(fault, Fault::Refused { .. });
+                return Err(if silent { Error::Unknown { request: 0, why: fault.to_string() } } else { of(fault) });
+            }
+            sleep(PAUSE);
+        }
     }
 
     fn run(&mut self, command: &str) -> Result<Rows, Fault> {

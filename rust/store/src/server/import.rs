@@ -38,13 +38,15 @@ pub(crate) fn import(address: ServerAddress, fresh: (u64, Capacity), source: &mu
     let lists = columns.iter().zip(kinds).map(|(column, kind)| format!("ARRAY[{}]::{kind}[]", column.join(",")));
     let lists = lists.collect::<Vec<_>>().join(", ");
     let (name, chain) = (text(&address.log), bytes(&known.chain));
-    // One message is one transaction. Where there is a log of this name, the import is not even tried.
+    // One message is one transaction. Where there is a log of this name, the import is not even tried. Where the message
+    // comes again, the log is its own, and the rows are there: the import adds none, or finds that the log is in use.
     let create = format!("SELECT 1 / {}::integer", create_call(&address.log, fresh.0, fresh.1));
     let log = format!("(SELECT log FROM cindrolf.logs WHERE name = {name})");
     let import = format!("SELECT cindrolf.import({log}, 0, {chain}, {lists})");
-    match ServerEngine::new(address, PATIENCE).run_once(&format!("{create}; {import}"), LONGEST) {
+    match ServerEngine::new(address, PATIENCE).make(&format!("{create}; {import}"), LONGEST) {
         // The division by zero.
         Err(Error::Forbidden(why)) if why.contains("SQLSTATE 22012") => Err(Error::Exists),
+        Err(Error::Forbidden(why)) if why.contains("SQLSTATE 55000") => Ok(()),
         rows => rows.map(drop),
     }
 }

@@ -35,7 +35,11 @@ impl ServerStore {
         if !engine.create(client_count, capacity)? {
             return Err(Error::Exists);
         }
-        ServerStore::over(address, engine, false)
+        ServerStore::over(address, engine, false).map_err(|error| match error {
+            // The log is made, so that it is not true that nothing is stored.
+            Error::Unreachable(why) => Error::Unknown { request: 0, why },
+            error => error,
+        })
     }
 
     pub fn open(address: ServerAddress) -> Result<Self, Error> {
