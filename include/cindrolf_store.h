@@ -41,7 +41,7 @@ uint64_t cindrolf_store_version(void);
 /* An open log. */
 typedef struct cindrolf_store cindrolf_store;
 
-/* What a call came to. */
+/* How a call ended. */
 enum cindrolf_store_status {
     CINDROLF_STORE_OK = 0,            /* done, and stored where it stores anything */
     CINDROLF_STORE_REFUSED = 1,       /* the log refused it: the answer is CINDROLF_REFUSED and the refusal's number */

@@ -1,4 +1,5 @@
-// A log that controllers share, in a file or on a server, for C++17: cindrolf_store.h with handles that close themselves, enums, views and exceptions.
+// A log that controllers share, in a file or on a server, for C++17: cindrolf_store.h with handles that close themselves, enums, views and
+// exceptions.
 // Link as for cindrolf_store.h (pkg-config cindrolf-store); this header is all there is to it.
 //
 // A call that is not done throws cindrolf::error, or one that is derived of it: cindrolf::refused where the log refused, and cindrolf::unknown
@@ -34,7 +35,7 @@ enum class step : std::uint64_t {
     close_own = CINDROLF_STEP_CLOSE_OWN,
 };
 
-// What a call came to.
+// How a call ended.
 enum class status : int {
     ok = CINDROLF_STORE_OK,
     refused = CINDROLF_STORE_REFUSED,
@@ -84,7 +85,9 @@ class answer {
 public:
     enum class kind { done, was_closed, behind, stored };
     constexpr explicit answer(std::uint64_t number) : number_(number) {}
-    constexpr kind what() const { return stored() ? kind::stored : number_ == CINDROLF_WAS_CLOSED ? kind::was_closed : behind() ? kind::behind : kind::done; }
+    constexpr kind what() const {
+        return stored() ? kind::stored : number_ == CINDROLF_WAS_CLOSED ? kind::was_closed : behind() ? kind::behind : kind::done;
+    }
     // Another leader was faster: ask the adviser.
     constexpr bool behind() const { return number_ == CINDROLF_BEHIND; }
     // A read is stored, with this number in the log and at this place of its ledger.
@@ -196,8 +199,10 @@ public:
     static store read_only(const std::string &address) { return store(cindrolf_store_open_read_only, address); }
     // Makes a fresh log for 1 to 16 clients, of which client 0 is the named leader.
     static store create(const std::string &address, std::uint64_t clients, std::size_t entry_words = CINDROLF_ENTRY_WORDS) {
-        return store([=](const char *at, cindrolf_store **handle, char *why, std::size_t size) { return cindrolf_store_create(at, clients, entry_words, handle, why, size); },
-                     address);
+        const auto creates = [=](const char *at, cindrolf_store **handle, char *why, std::size_t size) {
+            return cindrolf_store_create(at, clients, entry_words, handle, why, size);
+        };
+        return store(creates, address);
     }
     store(store &&other) noexcept : handle_(std::exchange(other.handle_, nullptr)) {}
     store &operator=(store &&other) noexcept {
@@ -250,7 +255,9 @@ public:
     void revoke(std::uint64_t client, step right) {
         done([&](std::uint64_t *number) { return cindrolf_store_revoke(handle_, client, static_cast<std::uint64_t>(right), number); });
     }
-    void set_rights(words rights) { done([&](std::uint64_t *number) { return cindrolf_store_set_rights(handle_, rights.data(), rights.size(), number); }); }
+    void set_rights(words rights) {
+        done([&](std::uint64_t *number) { return cindrolf_store_set_rights(handle_, rights.data(), rights.size(), number); });
+    }
 
     // The log as it is now.
     snapshot look() {
@@ -294,7 +301,9 @@ public:
         return whole != 0;
     }
     void copy(const std::string &address) { check(cindrolf_store_copy(handle_, text(address))); }
-    void set_patience(std::chrono::milliseconds patience) { check(cindrolf_store_set_patience(handle_, static_cast<std::uint64_t>(patience.count()))); }
+    void set_patience(std::chrono::milliseconds patience) {
+        check(cindrolf_store_set_patience(handle_, static_cast<std::uint64_t>(patience.count())));
+    }
     void set_process_name(const std::string &name) { check(cindrolf_store_set_process_name(handle_, text(name))); }
     void keep_witness(const std::string &file) { check(cindrolf_store_keep_witness(handle_, text(file))); }
     // The handle, for the functions of cindrolf_store.h.

@@ -72,7 +72,7 @@ static void write_read(uint64_t value) {
     }
 }
 
-/* The named client names the next one. Who leads and is not named abdicates. */
+/* The named client names the next one. A client that leads and is not named abdicates. */
 static void hand_over(void) {
     uint64_t step = advised();
     if (step != CINDROLF_NO_STEP && step != CINDROLF_STEP_ABDICATE && now.clients > 1)

@@ -53,7 +53,7 @@ struct controller {
         }
     }
 
-    // The named client names the next one. Who leads and is not named abdicates.
+    // The named client names the next one. A client that leads and is not named abdicates.
     void hand_over() {
         const auto next = advised();
         if (next && next != step::abdicate && now.clients() > 1)

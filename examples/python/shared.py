@@ -41,7 +41,7 @@ def write(log, client, value):
 
 
 def hand_over(log, client):
-    """The named client names the next one. Who leads and is not named abdicates."""
+    """The named client names the next one. A client that leads and is not named abdicates."""
     now = log.snapshot()
     if now.advise(client) not in (None, Step.ABDICATE) and now.clients > 1:
         take(log, Step.NAME, (client + 1) % now.clients)

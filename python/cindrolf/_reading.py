@@ -123,7 +123,7 @@ class Reading:
         return RunTotal(total.ones, total.parts, total.rounded)
 
     def first_window(self, window: int, limit: int) -> Optional[int]:
-        """Where in the chain the first `window` entries in a row begin whose values come to more than the limit, if there are any."""
+        """Where in the chain the first `window` entries in a row begin whose values add up to more than the limit, if there are any."""
         found = self._read("cindrolf_first_window", word(window, "window"), word(limit, "limit"))
         given(found.answer)
         return found.start if found.found else None

@@ -57,7 +57,7 @@ class Kind(enum.IntEnum):
 
 
 class Status(enum.IntEnum):
-    """What a call on a shared log came to."""
+    """How a call on a shared log ended."""
 
     OK = 0
     REFUSED = 1

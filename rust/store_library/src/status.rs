@@ -5,7 +5,7 @@ use store::{Error, Stored};
 
 macro_rules! statuses {
     ($($(#[$doc:meta])* $status:ident, $name:literal, $text:literal;)*) => {
-        /// What a call came to.
+        /// How a call ended.
         #[derive(Clone, Copy, Debug, PartialEq, Eq)]
         pub enum Status {
             $($(#[$doc])* $status,)*
@@ -134,7 +134,7 @@ mod tests {
         let header = read("include/cindrolf_store.h");
         assert_eq!(listed(&header, "enum cindrolf_store_status {", "CINDROLF_STORE_"), table, "the header");
         let python =
-            read("python/cindrolf/_values.py").replace("\n    \"\"\"What a call on a shared log came to.\"\"\"\n", "");
+            read("python/cindrolf/_values.py").replace("\n    \"\"\"How a call on a shared log ended.\"\"\"\n", "");
         assert_eq!(listed(&python, "class Status(enum.IntEnum):", ""), table, "Python");
         // That for C++ takes its numbers from the header.
         let names: Vec<_> = Status::ALL.iter().map(|status| status.name()).collect();

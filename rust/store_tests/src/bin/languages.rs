@@ -32,7 +32,7 @@ const ELECTION_PATIENCE: Duration = Duration::from_millis(20);
 /// How long the control may take to fail.
 const CONTROL_TIME: Duration = Duration::from_secs(2);
 
-/// The word by which this program is told to be a wrong controller, the control: it tells that each read is stored, and stores
+/// The word that has this program be a wrong controller, the control: it says that each read is stored, and stores
 /// none.
 const LIAR: &str = "liar";
 
