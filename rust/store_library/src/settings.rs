@@ -57,3 +57,30 @@ pub unsafe extern "C" fn cindrolf_store_keep_witness(store: *mut Opaque, file: *
     // SAFETY: by the header.
     with(store, |store| Ok(store.keep_witness(unsafe { path(file, "file") }?)?))
 }
+
+#[cfg(test)]
+mod tests {
+    use super::*;
+    use limits::{NOTE_LIMIT, PATH_LIMIT, PROCESS_LIMIT};
+
+    const HEADER: &str = include_str!("../../../include/cindrolf_store.h");
+
+    fn defined(name: &str) -> usize {
+        let line = format!("#define CINDROLF_STORE_{name} ");
+        let text = HEADER.lines().find_map(|text| text.strip_prefix(&line)).expect("a constant of the header");
+        text.trim_start_matches("UINT64_C(").trim_end_matches(')').parse().expect("a number")
+    }
+
+    #[test]
+    fn limits_of_the_header() {
+        assert_eq!(defined("NOTE_LIMIT"), NOTE_LIMIT);
+        assert_eq!(defined("PROCESS_LIMIT"), PROCESS_LIMIT);
+        let most = defined("WAIT_LIMIT") as u64;
+        assert!(wait(most).is_ok() && wait(most + 1).is_err());
+        assert_eq!(defined("VERSION") as u64, cindrolf_store_version());
+        // A message may name a file twice, and a row has a number of at most 19 digits.
+        assert!(defined("MESSAGE_BYTES") > 2 * PATH_LIMIT);
+        let longest = store::LastRow { number: i64::MAX, chain: u128::MAX };
+        assert!(defined("ROW_BYTES") > longest.to_string().len());
+    }
+}
