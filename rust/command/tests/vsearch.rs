@@ -4,7 +4,6 @@ mod support;
 
 use std::fs;
 use std::process::Command;
-use store_tests::skipped::skipped;
 use support::Folder;
 use support::reads::{self, Read};
 
@@ -38,11 +37,8 @@ fn agrees(value: u64, printed: &str) -> bool {
 }
 
 #[test]
+#[ignore = "tests/reads runs it, where there is vsearch"]
 fn two_thousand_reads() {
-    if Command::new("vsearch").arg("--version").output().is_err() {
-        skipped("two_thousand_reads", "there is no command vsearch; Debian has it in the package vsearch");
-        return;
-    }
     let (folder, reads) = (Folder::new(), reads::random(10, 2_000, 300));
     let values = written(&folder, &reads);
     let printed = by_vsearch(&folder);
