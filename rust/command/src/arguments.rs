@@ -3,6 +3,7 @@
 use crate::failure::Failure;
 use crate::plans::Plan;
 use crate::steps::Manner;
+use crate::steps_of_log::Part;
 use crate::traces::Drawing;
 use crate::write::{Reads, Writing};
 use crate::{given, help, marks};
@@ -13,7 +14,7 @@ use std::os::unix::ffi::{OsStrExt, OsStringExt};
 use std::path::PathBuf;
 use std::time::Duration;
 use std::vec::IntoIter;
-use store::{LastRow, PATIENCE};
+use store::{LastRow, PATIENCE, ROW_LIMIT};
 
 /// What is to be done.
 #[derive(Debug, PartialEq, Eq)]
@@ -29,6 +30,7 @@ pub enum Command {
     Plan(Plan),
     Forecast(Plan),
     Show { file: PathBuf, as_json: bool },
+    Watch { file: PathBuf },
     Chain { file: PathBuf, at: Option<MarkName>, as_csv: bool },
     Steps { file: PathBuf, as_csv: bool },
     Window { file: PathBuf, length: u64, limit: u64, as_json: bool },
@@ -81,7 +83,13 @@ fn unknown(name: &str) -> Failure {
 /// The options of a command, each with what its value is, where it has one.
 fn options(name: &str) -> &'static [(&'static str, &'static str)] {
     match name {
-        "trace" => &[("--svg", ""), ("-o", "a file")],
+        "trace" => &[
+            ("--svg", ""),
+            ("-o", "a file"),
+            ("--client", "a client"),
+            ("--from", "the number of a row"),
+            ("--to", "the number of a row"),
+        ],
         "create" => &[("--small", "")],
         "step" => &[("--explain", ""), ("--wait", "a number of seconds"), ("--witness", "a file")],
         "write" => &[("--fastq", "a file"), ("--scores", ""), ("--resume", ""), ("--strict", "")],
@@ -117,6 +125,7 @@ fn parse(name: &str, args: Vec<OsString>) -> Result<Command, String> {
         "plan" => Command::Plan(words.plan(file)?),
         "forecast" => Command::Forecast(words.plan(file)?),
         "show" => Command::Show { file, as_json },
+        "watch" => Command::Watch { file },
         "chain" => Command::Chain { file, at: words.option("--at").map(|name| mark(&name)).transpose()?, as_csv },
         "steps" => Command::Steps { file, as_csv },
         "window" => Command::Window { file, length: words.length()?, limit: words.limit()?, as_json },
@@ -231,7 +240,24 @@ impl Words {
             return Err("-o wants a file after it".into());
         }
         let file = self.one_file()?.ok_or("one FILE, not 0")?;
-        Ok(Command::Trace { file, drawing: Drawing { page, svg: self.option("--svg").is_some() } })
+        let drawing = Drawing { page, svg: self.option("--svg").is_some(), part: self.part()? };
+        Ok(Command::Trace { file, drawing })
+    }
+
+    /// Which rows of a log are asked for.
+    fn part(&self) -> Result<Part, String> {
+        let number = |option: &str, least: u64, most: u64| {
+            let number = |text: &OsString| session::number(text.as_bytes(), most).filter(|&number| number >= least);
+            let wrong =
+                |text: OsString| format!("{option} is a number from {least} to {most}, not '{}'", text.display());
+            self.option(option).map(|text| number(&text).ok_or_else(|| wrong(text))).transpose()
+        };
+        let client = number("--client", 0, CLIENT_NUMBER_LIMIT)?;
+        let row = |option| number(option, 1, ROW_LIMIT as u64);
+        match (row("--from")?, row("--to")?) {
+            (Some(from), Some(to)) if from > to => Err(format!("--from {from} is after --to {to}")),
+            (from, to) => Ok(Part { client, from, to }),
+        }
     }
 
     /// The last word is the client, but for values, which come after it.
@@ -370,16 +396,27 @@ mod tests {
 
     #[test]
     fn pages_and_pictures() {
-        let drawn = |page: Option<&str>, svg| Command::Trace {
+        let part_drawn = |page: Option<&str>, svg, part| Command::Trace {
             file: "a".into(),
-            drawing: Drawing { page: page.map(PathBuf::from), svg },
+            drawing: Drawing { page: page.map(PathBuf::from), svg, part },
         };
+        let drawn = |page, svg| part_drawn(page, svg, Part::default());
         assert_eq!(parsed("trace a"), Ok(drawn(None, false)));
         assert_eq!(parsed("trace --svg a"), Ok(drawn(None, true)));
         assert_eq!(parsed("trace a -o -b"), Ok(drawn(Some("-b"), false)));
-        for (args, wrong) in
-            [("trace", "one FILE, not 0"), ("trace a b", "one FILE, not 2"), ("trace a -o", "-o wants a file")]
-        {
+        let some = Part { client: Some(3), from: Some(2), to: Some(2) };
+        assert_eq!(parsed("trace a --from 2 --to 2 --client 3"), Ok(part_drawn(None, false, some)));
+        for (args, wrong) in [
+            ("trace", "one FILE, not 0"),
+            ("trace a b", "one FILE, not 2"),
+            ("trace a -o", "-o wants a file"),
+            ("trace a --from", "--from wants the number of a row after it"),
+            ("trace a --from 0", "--from is a number from 1 to 1000000, not '0'"),
+            ("trace a --to 1000001", "--to is a number from 1 to 1000000, not '1000001'"),
+            ("trace a --client 256", "--client is a number from 0 to 255, not '256'"),
+            ("trace a --client x", "--client is a number from 0 to 255, not 'x'"),
+            ("trace a --from 3 --to 2", "--from 3 is after --to 2"),
+        ] {
             assert!(parsed(args).unwrap_err().starts_with(wrong), "{args}");
         }
         assert_eq!(parsed("session -- -a"), Ok(Command::Session { file: Some("-a".into()) }));

@@ -14,7 +14,7 @@ macro_rules! subcommands {
 const SUBCOMMANDS: &[(&str, &str)] = subcommands![
     "session" "total" "trace"
     "create" "step" "write" "plan" "forecast"
-    "show" "chain" "steps" "window" "advise" "mark" "grant" "revoke" "check" "copy"
+    "show" "watch" "chain" "steps" "window" "advise" "mark" "grant" "revoke" "check" "copy"
     "archive" "restore" "upgrade"
     "schema" "audit" "settle"
 ];

@@ -1,10 +1,11 @@
 //! The rows of a log, one a line: each step that was asked for, with its reply.
 
+use crate::asked::{asked, letters};
 use crate::csv::{line, or_empty};
 use crate::marks;
 use crate::printable::printable;
 use crate::time::utc;
-use cindrolf::{Kind, Right};
+use cindrolf::Kind;
 use std::fmt::Write;
 use store::{Change, Error, JournalRow, Store};
 
@@ -17,16 +18,6 @@ pub fn text(store: &mut Store) -> Result<String, Error> {
         Ok(())
     })?;
     Ok(text)
-}
-
-fn asked(change: &Change) -> String {
-    match change {
-        Change::Step(client, step) => session::line(*client, *step),
-        Change::WriteScores(client, scores) => format!("W {client} of {} scores", scores.len()),
-        Change::SetMark(name) => format!("mark {}", marks::printed(*name)),
-        Change::DropMark(name) => format!("drop mark {}", marks::printed(*name)),
-        Change::SetRights(client, word) => format!("rights of {client}: {}", letters(*word)),
-    }
 }
 
 /// Each row as fields with commas between them, with all that is stored of it but its chain value.
@@ -58,9 +49,4 @@ fn fields(row: &JournalRow<'_>) -> String {
     let process = row.process.unwrap_or_default().to_owned();
     let (value, note) = (or_empty(row.value), row.note.unwrap_or_default().to_owned());
     line(&[number, time, process, letter, step, or_empty(client), input, row.reply.clone(), value, note])
-}
-
-/// The letters of the steps that a word of rights permits.
-fn letters(word: u64) -> String {
-    Right::ALL.into_iter().filter(|right| word & right.bit() != 0).map(Right::letter).collect()
 }

@@ -2,6 +2,7 @@
 
 mod archives;
 mod arguments;
+mod asked;
 mod audit;
 mod check;
 mod closed;
@@ -18,6 +19,7 @@ mod plans;
 mod printable;
 mod proved;
 mod readings;
+mod screen;
 mod show;
 mod signals;
 mod steps;
@@ -26,6 +28,7 @@ mod table;
 mod time;
 mod totals;
 mod traces;
+mod watch;
 mod windows;
 mod write;
 
@@ -65,6 +68,7 @@ fn run(command: Command) -> Result<ExitCode, Failure> {
         Command::Forecast(plan) => print(&plans::forecast(&plan)?)?,
         Command::Show { file, as_json: true } => print(&show::json(&file, &mut open(&file)?)?)?,
         Command::Show { file, .. } => print(&show::text(&file, &mut open(&file)?)?)?,
+        Command::Watch { file } => watch::watch(&file)?,
         Command::Chain { file, at, as_csv: true } => print(&read(&file, |store| readings::chain_csv(store, at))?)?,
         Command::Chain { file, at, .. } => print(&read(&file, |store| readings::chain(store, at))?)?,
         Command::Steps { file, as_csv: true } => print(&read(&file, journal::csv)?)?,

@@ -21,6 +21,12 @@ struct PollFd {
     found: c_short,
 }
 
+impl PollFd {
+    fn of(file: BorrowedFd<'_>) -> Self {
+        PollFd { file: file.as_raw_fd(), events: POLLIN, found: 0 }
+    }
+}
+
 unsafe extern "C" {
     fn signal(number: c_int, handler: usize) -> usize;
     fn raise(number: c_int) -> c_int;
@@ -86,14 +92,21 @@ impl Signals {
         CAME.load(Ordering::SeqCst) != 0
     }
 
+    /// Waits until a signal comes, or this much time has passed, and says whether one came.
+    pub fn pause(&self, time: Duration) -> io::Result<bool> {
+        Ok(self.wait_for(&mut [PollFd::of(self.woken.as_fd())], Some(time))? == Waited::Signal)
+    }
+
     /// Waits until there is something to read, a signal comes, or this much time has passed.
     pub fn wait(&self, input: BorrowedFd<'_>, time: Option<Duration>) -> io::Result<Waited> {
+        self.wait_for(&mut [PollFd::of(input), PollFd::of(self.woken.as_fd())], time)
+    }
+
+    fn wait_for(&self, files: &mut [PollFd], time: Option<Duration>) -> io::Result<Waited> {
         let time = time.map_or(-1, |time| c_int::try_from(time.as_millis()).unwrap_or(c_int::MAX));
-        let of = |file: BorrowedFd<'_>| PollFd { file: file.as_raw_fd(), events: POLLIN, found: 0 };
-        let mut files = [of(input), of(self.woken.as_fd())];
         loop {
-            // SAFETY: there are two.
-            let found = unsafe { poll(files.as_mut_ptr(), 2, time) };
+            // SAFETY: there are as many.
+            let found = unsafe { poll(files.as_mut_ptr(), files.len() as c_ulong, time) };
             let error = io::Error::last_os_error();
             match found {
                 _ if self.came() => return Ok(Waited::Signal),

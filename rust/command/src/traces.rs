@@ -1,8 +1,10 @@
-//! A session or the steps of a log as a page, or as a picture.
+//! A session or the rows of a log as a page, or as a picture.
 
 use crate::failure::Failure;
 use crate::given::{self, Given};
-use crate::{page, steps_of_log};
+use crate::page;
+use crate::steps_of_log::{self, Part};
+use session::NoSession;
 use std::fs::File;
 use std::io::{self, Read};
 use std::path::{Path, PathBuf};
@@ -16,6 +18,8 @@ pub struct Drawing {
     pub page: Option<PathBuf>,
     /// Whether one static picture is wanted in place of a page.
     pub svg: bool,
+    /// Which rows of a log are drawn.
+    pub part: Part,
 }
 
 /// Draws the session or the log in this file.
@@ -23,22 +27,30 @@ pub fn draw(file: &Path, drawing: &Drawing) -> Result<(), Failure> {
     if let Some(page) = &drawing.page {
         page::fit(page)?;
     }
-    let input = match given::look(file)? {
-        Given::Session(opened) => {
-            bytes(opened).map_err(|error| Failure::Arguments(format!("{} cannot be read: {error}", file.display())))?
+    let frames = match given::look(file)? {
+        Given::Session(_) if !drawing.part.is_all() => {
+            let why = "is a session: --client, --from and --to choose rows of a log";
+            return Err(Failure::Arguments(format!("{} {why}", file.display())));
         }
-        Given::Log => steps_of_log::session(file)?,
-    };
-    let frames = match Frames::of(&input) {
-        Ok(frames) => Ok(frames),
-        Err(NoFrames::NoSession(reason)) => Err(reason),
-        Err(NoFrames::Library(error)) => return Err(Failure::Program(error.to_string())),
+        Given::Session(opened) => session(file, opened)?,
+        Given::Log => Ok(steps_of_log::frames(file, drawing.part)?),
     };
     let name = escape::visible(file.file_name().unwrap_or_default().as_encoded_bytes());
     let text = if drawing.svg { svg::picture(&name, &frames) } else { trace::page::page(&name, &frames) };
     match &drawing.page {
         Some(page) => page::put(page, &text),
         None => crate::print(&text),
+    }
+}
+
+/// The frames of a session, or why the file has none.
+fn session(file: &Path, opened: File) -> Result<Result<Frames, NoSession>, Failure> {
+    let input =
+        bytes(opened).map_err(|error| Failure::Arguments(format!("{} cannot be read: {error}", file.display())))?;
+    match Frames::of(&input) {
+        Ok(frames) => Ok(Ok(frames)),
+        Err(NoFrames::NoSession(reason)) => Ok(Err(reason)),
+        Err(NoFrames::Library(error)) => Err(Failure::Program(error.to_string())),
     }
 }
 

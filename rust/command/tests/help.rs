@@ -75,6 +75,11 @@ fn the_examples_run() {
     for name in names() {
         let help = help(&name);
         let script = format!("PATH=bin; {}", example(&help)[0]);
+        // What goes on until Ctrl-C has tests of its own.
+        if name == "watch" {
+            assert_eq!(script, "PATH=bin; cindrolf watch run.db");
+            continue;
+        }
         let ended = support::ended(folder.shell(&script).spawn().unwrap());
         assert_eq!((ended.status, ended.errors.as_str()), (Some(0), ""), "{name}");
     }

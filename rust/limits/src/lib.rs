@@ -86,3 +86,6 @@ pub const PATH_LIMIT: usize = 504;
 /// Steps of a session whose picture is part of its page. Beyond it there is the list alone, so that a page stays below
 /// 2 MB.
 pub const DRAWN_LIMIT: usize = 200;
+
+/// Rows of a log that a page shows: as many as a full log has reads.
+pub const PAGE_ROW_LIMIT: usize = 4_096;

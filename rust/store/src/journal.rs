@@ -5,6 +5,9 @@ use crate::request::reply;
 use crate::{Change, Error};
 use cindrolf::Kind;
 
+/// The number of a log's first row.
+pub(crate) const FIRST_ROW: i64 = 1;
+
 /// A row of a log.
 #[derive(Clone, Debug, PartialEq, Eq)]
 pub struct JournalRow<'a> {

@@ -35,7 +35,8 @@ pub(crate) trait Kept: Send {
     /// The chain value of a row, if there is one. Row 0 is the fresh log.
     fn chain_of(&mut self, row: i64) -> Result<Option<Chain>, Error>;
 
-    fn each_row(&mut self, each: &mut EachRow<'_>) -> Result<(), Error>;
+    /// Gives each row, from the one of this number on.
+    fn each_row(&mut self, first: i64, each: &mut EachRow<'_>) -> Result<(), Error>;
 
     fn steppers(&mut self, clients: usize) -> Result<Vec<Stepper>, Error>;
 

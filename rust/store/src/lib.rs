@@ -60,6 +60,7 @@ mod file;
 mod journal;
 mod kept;
 mod latest;
+mod replay;
 mod replica;
 mod request;
 mod row;
@@ -77,6 +78,7 @@ pub use journal::JournalRow;
 pub use latest::Latest;
 #[doc(inline)]
 pub use limits::{CLIENT_ROW_LIMIT, NOTE_LIMIT, OTHER_ROW_LIMIT, PROCESS_LIMIT, ROW_LIMIT};
+pub use replay::Replay;
 pub(crate) use request::Known;
 pub use request::{Asked, Change, Told};
 pub use row::{LastRow, NoLastRow};

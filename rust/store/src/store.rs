@@ -7,7 +7,7 @@ use crate::file::PRIVATE;
 use crate::file::processes::Stepper;
 use crate::file::store::FileStore;
 use crate::file::upgrade::write_new;
-use crate::journal::{EachRow, JournalRow};
+use crate::journal::{EachRow, FIRST_ROW, JournalRow};
 use crate::kept::Kept;
 use crate::latest::Latest;
 use crate::request::{Asked, Change, Told};
@@ -118,12 +118,16 @@ impl Store {
     /// Gives each row of the log, from the first on. The stored answers are as they are: [`check`](Store::check) compares
     /// them.
     pub fn each_row(&mut self, mut each: impl FnMut(JournalRow<'_>) -> Result<(), Error>) -> Result<(), Error> {
-        self.kept.each_row(&mut |row| each(row.shown()))
+        self.each_stored(&mut |row| each(row.shown()))
     }
 
     /// Gives each row with all that is stored of it.
     pub(crate) fn each_stored(&mut self, each: &mut EachRow<'_>) -> Result<(), Error> {
-        self.kept.each_row(each)
+        self.each_stored_from(FIRST_ROW, each)
+    }
+
+    pub(crate) fn each_stored_from(&mut self, first: i64, each: &mut EachRow<'_>) -> Result<(), Error> {
+        self.kept.each_row(first, each)
     }
 
     /// The processes that step for each client, of as many clients as are asked for.
@@ -217,9 +221,9 @@ impl Store {
         match Address::parse(to.as_ref())? {
             Address::File(path) => match self.kept.copy_file(&path) {
                 Some(copied) => copied,
-                None => write_new(&path, fresh, PRIVATE, &mut |each| self.kept.each_row(each)),
+                None => write_new(&path, fresh, PRIVATE, &mut |each| self.kept.each_row(FIRST_ROW, each)),
             },
-            Address::Server(address) => import(address, fresh, &mut |each| self.kept.each_row(each)),
+            Address::Server(address) => import(address, fresh, &mut |each| self.kept.each_row(FIRST_ROW, each)),
         }
     }
 

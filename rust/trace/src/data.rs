@@ -47,12 +47,23 @@ impl Tables {
         }
     }
 
-    /// A step as its client, its mark, its outcome and its changes. A bad line is 0.
+    fn changes(&mut self, changes: &[Change]) -> String {
+        let changes: Vec<_> = changes.iter().map(|change| self.change(change)).collect();
+        format!("[{}]", changes.join(","))
+    }
+
+    /// A step as its client, its mark, its outcome, its changes, and those of rows before it that are not shown, if there
+    /// are any. A bad line is 0. What no client has done is done by the client of number -1, which has no lane.
     fn step(&mut self, frame: &Frame) -> String {
-        let Some(client) = frame.client else { return "0".into() };
-        let changes: Vec<_> = frame.changes.iter().map(|change| self.change(change)).collect();
+        if frame.outcome == Outcome::BadLine {
+            return "0".into();
+        }
+        let client = frame.client.map_or("-1".into(), |client| client.to_string());
+        let hidden = self.changes(&frame.hidden);
+        let hidden = if frame.hidden.is_empty() { String::new() } else { format!(",{hidden}") };
+        let changes = self.changes(&frame.changes);
         let outcome = OUTCOMES.iter().position(|&outcome| outcome == frame.outcome).unwrap_or(0);
-        format!("[{client},{},{outcome},[{}]]", json(&frame.mark), changes.join(","))
+        format!("[{client},{},{outcome},{changes}{hidden}]", json(&frame.mark))
     }
 }
 
@@ -64,8 +75,13 @@ pub fn data(frames: &Frames) -> String {
     let mut tables = Tables { standings: Table::new(), conditions: Table::new() };
     let clients: Vec<_> =
         frames.start.clients.iter().map(|&client| tables.standings.place(client).to_string()).collect();
+    let begin = tables.changes(&frames.begin);
     let steps: Vec<_> = frames.frames.iter().map(|frame| tables.step(frame)).collect();
     let mut text = format!("{{\"named\":{},\"clients\":[{}]", frames.start.named, clients.join(","));
+    if frames.part.is_some() {
+        let rows: Vec<_> = (1..).zip(&frames.frames).map(|(place, frame)| frame.number(place).to_string()).collect();
+        let _ = write!(text, ",\"begin\":{begin},\"rows\":[{}]", rows.join(","));
+    }
     let standings = tables
         .standings
         .0

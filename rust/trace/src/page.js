@@ -1,5 +1,5 @@
 "use strict";
-// Shows the steps of a session. What each step changes comes from the data; here it is only applied, undone and drawn.
+// Shows the steps of a session, or the rows of a log. What each step changes comes from the data; here it is only applied, undone and drawn.
 {
   const byId = (id) => document.getElementById(id);
   const make = (tag, className, text) => {
@@ -12,6 +12,12 @@
   const items = byId("steps").querySelectorAll("li");
   const last = data.steps.length;
   const changesOf = (step) => (step > 0 && data.steps[step - 1] !== 0 ? data.steps[step - 1][3] : []);
+  // With what rows that are not shown have changed before it.
+  const allOf = (step) => (data.steps[step - 1][4] || []).concat(changesOf(step));
+
+  // The row of a step, in a log, and the step of a row; else they are the same.
+  const numberOf = (step) => (data.rows ? data.rows[step - 1] : step);
+  const stepOf = (number) => (data.rows ? data.rows.indexOf(number) + 1 : number);
 
   // A bad line is 0, and so is its outcome.
   const outcomeOf = (step) => data.outcomes[data.steps[step - 1] !== 0 ? data.steps[step - 1][2] : 0];
@@ -55,7 +61,7 @@
   // Where each client stood from which step on, for the lanes.
   const stood = data.clients.map((standing) => [[0, standing]]);
   data.steps.forEach((_, index) => {
-    for (const [kind, client, , to] of changesOf(index + 1)) {
+    for (const [kind, client, , to] of allOf(index + 1)) {
       if (kind === STANDING) stood[client].push([index + 1, to]);
     }
   });
@@ -153,7 +159,7 @@
   }
 
   function stepHead(step) {
-    const head = make("th", step === at ? "now" : "", step === 0 ? "start" : String(step));
+    const head = make("th", step === at ? "now" : "", step === 0 ? "start" : String(numberOf(step)));
     head.scope = "col";
     head.dataset.step = step;
     if (step > 0 && step <= at && outcomeOf(step)) head.classList.add(outcomeOf(step));
@@ -218,7 +224,10 @@
     byId("reply").textContent = reply;
     byId("text").textContent = text;
     byId("place").textContent = `step ${at} of ${last}`;
-    const said = [byId("place").textContent, line, reply, text].filter((part) => part).join(". ");
+    const time = item.querySelector("time")?.textContent;
+    const when = data.rows && at > 0 ? [`row ${numberOf(at)}`, time].filter((part) => part).join(", ") : "";
+    if (data.rows) byId("when").textContent = when;
+    const said = [byId("place").textContent, line, reply, text, when].filter((part) => part).join(". ");
     byId("told").textContent = said;
     byId("slider").value = at;
     byId("slider").setAttribute("aria-valuetext", said);
@@ -238,8 +247,8 @@
     const to = Math.max(0, Math.min(last, wanted));
     clearMarks();
     markItem(at, false);
-    for (; at < to; at++) run(apply, changesOf(at + 1));
-    for (; at > to; at--) run(undo, changesOf(at).slice().reverse());
+    for (; at < to; at++) run(apply, allOf(at + 1));
+    for (; at > to; at--) run(undo, allOf(at).reverse());
     drawStep();
     drawLedgers();
     drawLanes();
@@ -268,7 +277,7 @@
     const link = event.target.closest("a");
     if (!link) return;
     event.preventDefault();
-    go(Number(link.hash.slice(1)));
+    go(stepOf(Number(link.hash.slice(1))));
     scrollTo(0, 0);
   });
   addEventListener("resize", drawLanes);
@@ -281,5 +290,6 @@
     byId("lanes-part").tabIndex = 0;
   }
   document.documentElement.classList.add("scripted");
-  go(Number(location.hash.slice(1)) || 0);
+  run(apply, data.begin || []);
+  go(stepOf(Number(location.hash.slice(1))) || 0);
 }

@@ -4,6 +4,7 @@ use crate::data::data;
 use crate::escape::markup;
 use crate::frames::{Frame, Frames, Outcome};
 use crate::policy::source;
+use crate::rows::Row;
 use crate::svg;
 use limits::DRAWN_LIMIT;
 use session::NoSession;
@@ -51,14 +52,26 @@ pub fn why(reason: NoSession) -> &'static str {
     }
 }
 
-/// A line of the list. Its number is its place.
+/// A line of the list. Its number is its place, or that of its row.
 fn item(place: usize, frame: &Frame) -> String {
     let class = Some(frame.outcome.class()).filter(|class| !class.is_empty());
     let class = class.map_or(String::new(), |class| format!(" class={class}"));
     let word = if frame.outcome == Outcome::Refused { "refused: " } else { "" };
     let text = if frame.text.is_empty() { String::new() } else { format!(" <span>{}</span>", markup(&frame.text)) };
     let (line, reply) = (markup(&frame.line), markup(&frame.reply));
-    format!("<li{class}><a href=#{place}><code>{line}</code> <b>{word}{reply}</b></a>{text}\n")
+    let number = frame.number(place);
+    let (value, stored) =
+        frame.row.as_ref().map_or((String::new(), String::new()), |row| (format!(" value={number}"), stored(row)));
+    format!("<li{class}{value}><a href=#{number}><code>{line}</code> <b>{word}{reply}</b></a>{text}{stored}\n")
+}
+
+/// When a row was stored, by which process, and what is noted of it.
+fn stored(row: &Row) -> String {
+    let time = row.time.as_ref().map(|[day, time]| format!("<time>{day} {time} UTC</time>"));
+    let process = row.process.as_deref().map(markup);
+    let note = row.note.as_ref().map(|note| format!("\u{201c}{}\u{201d}", markup(note)));
+    let parts: Vec<_> = [time, process, note].into_iter().flatten().collect();
+    if parts.is_empty() { String::new() } else { format!(" <small>{}</small>", parts.join(", ")) }
 }
 
 /// The list of all steps, in parts that a browser can leave aside while they are out of sight.
@@ -76,15 +89,20 @@ fn session(name: &str, frames: &Frames) -> String {
     let name = markup(name);
     let clients = frames.start.clients.len();
     let plural = if clients == 1 { "" } else { "s" };
-    let start = format!("{clients} client{plural}; client {} is the named leader", frames.start.named);
+    let before = frames.frames.first().and_then(|frame| frame.row.as_ref());
+    let before = before.map_or(String::new(), |row| format!("before row {}: ", row.number));
+    let start = format!("{before}{clients} client{plural}; client {} is the named leader", frames.start.named);
+    let whole = frames.part.as_deref().unwrap_or("The whole session");
+    let all = frames.part.as_deref().unwrap_or("All steps");
+    let live = if frames.part.is_some() { LIVE.replace(TEXT, &format!("{TEXT}{WHEN}")) } else { LIVE.into() };
     format!(
         "<body>\n<header>\n<h1>{name}</h1>\n{CONTROLS}</header>\n<main>\n\
-         <p id=\"start\" hidden><b>start</b><span>{start}</span></p>\n<p id=\"no-step\" hidden>no step is taken</p>\n<div id=\"screen\">\n{LIVE}\
-         <section id=\"still\">\n<h2>The whole session</h2>\n{}</section>\n\
+         <p id=\"start\" hidden><b>start</b><span>{start}</span></p>\n<p id=\"no-step\" hidden>no step is taken</p>\n<div id=\"screen\">\n{live}\
+         <section id=\"still\">\n<h2>{whole}</h2>\n{}</section>\n\
          <section id=\"results\">\n<h2>At the end</h2>\n\
          <p><span class=\"result\" id=\"chain-line\" tabindex=\"0\">{chain}</span> <span class=\"result\" id=\"total\">{total}</span> \
          <span class=\"result\" id=\"rounded\">{rounded}</span></p>\n</section>\n{KEY}</div>\n\
-         <section id=\"all\">\n<h2>All steps</h2>\n<div id=\"steps\">\n{}</div>\n</section>\n</main>\n\
+         <section id=\"all\">\n<h2>{all}</h2>\n<div id=\"steps\">\n{}</div>\n</section>\n</main>\n\
          <script type=\"application/json\" id=\"data\">{}</script>\n<script>{SCRIPT}</script>\n</body>\n</html>\n",
         still(&name, frames),
         list(&frames.frames),
@@ -95,9 +113,8 @@ fn session(name: &str, frames: &Frames) -> String {
 /// The static picture, where it is not too long.
 fn still(name: &str, frames: &Frames) -> String {
     if frames.frames.len() > DRAWN_LIMIT {
-        return format!(
-            "<p>The session has more than {DRAWN_LIMIT} steps: <code>cindrolf trace --svg</code> draws them all.</p>\n"
-        );
+        let there = if frames.part.is_some() { "These are more than" } else { "The session has more than" };
+        return format!("<p>{there} {DRAWN_LIMIT} steps: <code>cindrolf trace --svg</code> draws them all.</p>\n");
     }
     svg::drawing(name, frames)
 }
@@ -113,6 +130,10 @@ const CONTROLS: &str = "\
 <output id=\"place\" for=\"slider\"></output>
 </nav>
 ";
+
+/// The step in words, and below it, of a row, when it was stored.
+const TEXT: &str = "<p id=\"text\"></p>\n";
+const WHEN: &str = "<p id=\"when\"></p>\n";
 
 const LIVE: &str = "\
 <div id=\"live\">

@@ -1,6 +1,6 @@
 //! What a log shows at one moment, and what a step has changed of it.
 
-use cindrolf::{EntryNumber, LedgerNumber, Log, Stage};
+use cindrolf::{EntryNumber, LedgerNumber, Stage, View};
 
 /// Where a client stands: its stage, and the ledger that the stage is about.
 #[derive(Clone, Copy, Debug, PartialEq, Eq, Hash)]
@@ -71,8 +71,7 @@ pub enum Change {
 
 impl Scene {
     /// What this log shows.
-    pub fn of(log: &Log) -> Self {
-        let view = log.view();
+    pub fn of(view: View<'_>) -> Self {
         let clients = view.clients().map(|client| {
             let about = !matches!(client.stage, Stage::Waiting | Stage::Fetching | Stage::Creating);
             let ledger = client.ledger.filter(|_| about).map(|ledger| ledger.number);
@@ -94,8 +93,14 @@ impl Scene {
         }
     }
 
+    /// What leads to this scene from a log without ledgers.
+    pub fn made_of(&self, view: View<'_>) -> Vec<Change> {
+        let empty = Scene { ledgers: Vec::new(), list: Vec::new(), entry_count: 0, ..self.clone() };
+        empty.changes(self, view)
+    }
+
     /// What has changed since this scene, which a step has left as `after` on this log.
-    pub fn changes(&self, after: &Scene, log: &Log) -> Vec<Change> {
+    pub fn changes(&self, after: &Scene, view: View<'_>) -> Vec<Change> {
         let mut changes = Vec::new();
         for (number, &condition) in (1..).zip(&after.ledgers) {
             match self.ledgers.get(number as usize - 1) {
@@ -107,7 +112,7 @@ impl Scene {
         changes.extend(after.list[self.list.len()..].iter().map(|&ledger| Change::Listed(ledger)));
         let stored = self.entry_count..after.entry_count;
         changes.extend(
-            stored.filter_map(|number| log.view().entry(EntryNumber(number))).map(|entry| {
+            stored.filter_map(|number| view.entry(EntryNumber(number))).map(|entry| {
                 Change::Stored(Drawn { ledger: entry.ledger.0, client: entry.client, value: entry.value })
             }),
         );

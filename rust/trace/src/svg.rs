@@ -1,4 +1,4 @@
-//! The whole session as one static picture: the lanes over time, the refusals in words, and the ledgers at the end.
+//! A whole session, or the rows of a log, as one static picture: the lanes over time, the refusals in words, and the ledgers at the end.
 
 mod lanes;
 mod ledgers;
@@ -25,7 +25,12 @@ pub fn picture(name: &str, frames: &Result<Frames, NoSession>) -> String {
 /// The picture as an element. The name is markup.
 pub fn drawing(name: &str, frames: &Frames) -> String {
     let mut shapes = Shapes::default();
-    let below = lanes::draw(&mut shapes, frames, 16);
+    let mut top = 16;
+    if let Some(part) = &frames.part {
+        shapes.words(24, top + 12, "bold soft", &format!("{part}; times are in UTC"));
+        top += 24;
+    }
+    let below = lanes::draw(&mut shapes, frames, top);
     let below = ledgers::draw(&mut shapes, frames, below);
     let height = results(&mut shapes, &frames.results, below);
     element(name, &description(frames), height, shapes)
@@ -58,10 +63,21 @@ fn description(frames: &Frames) -> String {
     let step = |(place, frame): (usize, &Frame)| {
         let text = if frame.text.is_empty() { String::new() } else { format!(": {}", frame.text) };
         let refused = if frame.outcome == Outcome::Refused { "refused, " } else { "" };
-        markup(&format!("{place} {}, {refused}{}{text}.\n", frame.line, frame.reply))
+        let number = frame.number(place);
+        markup(&format!("{number} {}, {refused}{}{text}.{}\n", frame.line, frame.reply, stored(frame)))
     };
     let steps: String = (1..).zip(&frames.frames).map(step).collect();
     format!("Time runs from left to right, with a lane for each client.\n{steps}{}", frames.results.join("\n"))
+}
+
+/// When a frame's row was stored, and by which process, in a sentence of its own.
+fn stored(frame: &Frame) -> String {
+    let Some(row) = &frame.row else { return String::new() };
+    let time = row.time.as_ref().map(|[day, time]| format!(" at {day} {time} UTC"));
+    let process = row.process.as_ref().map(|process| format!(" by {process}"));
+    let note = row.note.as_ref().map(|note| format!(", with the note \u{201c}{note}\u{201d}"));
+    let parts: String = [time, process, note].into_iter().flatten().collect();
+    if parts.is_empty() { parts } else { format!(" Stored{parts}.") }
 }
 
 /// The chain, the total and the rounded total, in lines that fit.

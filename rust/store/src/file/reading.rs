@@ -9,19 +9,22 @@ use crate::journal::{EachRow, StoredRow};
 use sqlite::Value;
 
 impl FileStore {
-    pub fn read_rows(&mut self, each: &mut EachRow<'_>) -> Result<(), Error> {
+    pub fn read_rows(&mut self, first: i64, each: &mut EachRow<'_>) -> Result<(), Error> {
         self.guarded(|link| {
             link.follow()?;
             let last = link.known().rows;
             if link.engine.format == Format::Old {
                 let known = link.engine.beginning()?.known;
                 return link.engine.read(known, |row| {
+                    if row.known.rows < first {
+                        return Ok(());
+                    }
                     let stamp = row.told.ok_or_else(|| lost(row.known.rows))?;
                     each(StoredRow { row: &row, stamp, time: None, process: None, note: None })
                 });
             }
-            let select = format!("SELECT {} FROM journal WHERE seq <= ? ORDER BY seq", rows::STORED);
-            link.engine.database.prepare(&select)?.each(&[Value::Integer(last)], |columns| {
+            let select = format!("SELECT {} FROM journal WHERE seq BETWEEN ? AND ? ORDER BY seq", rows::STORED);
+            link.engine.database.prepare(&select)?.each(&[Value::Integer(first), Value::Integer(last)], |columns| {
                 let row = rows::load(columns).ok_or_else(|| no_row(last))?;
                 let stamp = row.told.ok_or_else(|| lost(row.known.rows))?;
                 let time = match columns.value(9) {

@@ -271,8 +271,8 @@ impl Kept for FileStore {
         )
     }
 
-    fn each_row(&mut self, each: &mut EachRow<'_>) -> Result<(), Error> {
-        self.read_rows(each)
+    fn each_row(&mut self, first: i64, each: &mut EachRow<'_>) -> Result<(), Error> {
+        self.read_rows(first, each)
     }
 
     fn steppers(&mut self, clients: usize) -> Result<Vec<Stepper>, Error> {

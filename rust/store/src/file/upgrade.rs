@@ -5,7 +5,7 @@ use super::file_name;
 use super::schema::Format;
 use super::store::FileStore;
 use crate::Error;
-use crate::journal::EachRow;
+use crate::journal::{EachRow, FIRST_ROW};
 use crate::kept::Kept;
 use cindrolf::Capacity;
 use std::path::Path;
@@ -49,6 +49,6 @@ impl FileStore {
             return Err(Error::UpToDate);
         }
         let mode = self.mode_of_file()?;
-        write_new(to, (clients, capacity), mode, &mut |each| self.read_rows(each))
+        write_new(to, (clients, capacity), mode, &mut |each| self.read_rows(FIRST_ROW, each))
     }
 }

@@ -43,6 +43,11 @@ impl Auditor {
         Ok(self.replica.known.rows)
     }
 
+    /// How many rows it has taken.
+    pub fn rows_known(&self) -> i64 {
+        self.replica.known.rows
+    }
+
     /// Gives each row that is new, with its answer.
     pub fn rows(&mut self, engine: &mut ServerEngine, each: &mut EachRow<'_>) -> Result<(), Error> {
         self.each(engine, |_, row, stamp, rows, place| {

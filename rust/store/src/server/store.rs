@@ -26,6 +26,8 @@ pub(crate) struct ServerStore {
     driver: Driver<ServerEngine>,
     /// What has audited rows, once that was asked for.
     auditor: Option<Auditor>,
+    /// What has read rows for a caller, so that it goes on after them.
+    read: Option<Auditor>,
 }
 
 impl ServerStore {
@@ -60,6 +62,7 @@ impl ServerStore {
             is_read_only,
             driver: Driver::over(engine)?,
             auditor: None,
+            read: None,
         })
     }
 
@@ -123,9 +126,14 @@ impl Kept for ServerStore {
         if row == 0 { Ok(Some(engine.beginning()?.known.chain)) } else { engine.chain_of(row) }
     }
 
-    fn each_row(&mut self, each: &mut EachRow<'_>) -> Result<(), Error> {
+    /// A server's rows have no answers: each is taken once more, from the first on, or from the last that was read.
+    fn each_row(&mut self, first: i64, each: &mut EachRow<'_>) -> Result<(), Error> {
+        let read = self.read.take().filter(|read| read.rows_known() < first);
         let engine = &mut self.driver()?.engine;
-        Auditor::new(engine)?.rows(engine, each)
+        let mut read = read.map_or_else(|| Auditor::new(engine), Ok)?;
+        read.rows(engine, &mut |row| if row.row.known.rows < first { Ok(()) } else { each(row) })?;
+        self.read = Some(read);
+        Ok(())
     }
 
     fn steppers(&mut self, clients: usize) -> Result<Vec<Stepper>, Error> {

@@ -14,15 +14,19 @@ const BOX: i64 = 38;
 const STAGE: i64 = 20;
 /// The least width of a step.
 const NARROWEST: i64 = 46;
+/// Stands before the number of a step that was refused.
+const CROSS: &str = "\u{2715} ";
 /// The most characters of a line that are drawn.
 const LONGEST: usize = 22;
 
-/// A step's place in a row.
+/// A step's place in a row of the picture.
 struct Column<'a> {
-    place: usize,
+    number: u64,
     x: i64,
     width: i64,
     frame: &'a Frame,
+    /// The time that is drawn beside its number.
+    time: String,
 }
 
 /// The line and the reply as they are drawn: a long line is cut, a star is put to the name of a leader, and an entry's
@@ -38,10 +42,11 @@ fn shown(frame: &Frame) -> (String, &str) {
     (line, frame.reply.split(" place ").next().unwrap_or_default())
 }
 
-/// How wide a step is: as its line, its reply and the words of the stages that begin with it need.
-fn width(frame: &Frame) -> i64 {
+/// How wide a step is: as its line, its reply, its time and the words of the stages that begin with it need.
+fn width(frame: &Frame, number: u64, time: &str) -> i64 {
     let (line, reply) = shown(frame);
-    let texts = line.chars().count().max(reply.len()) as i64 * 15 / 2 + 6;
+    let head = if time.is_empty() { 0 } else { number.to_string().len() + CROSS.chars().count() + time.len() };
+    let texts = line.chars().count().max(reply.len()).max(head) as i64 * 15 / 2 + 6;
     let stages = frame.changes.iter().filter_map(|change| match change {
         Change::Standing(_, _, to) => Some(stage_room(to.short(), to.classes())),
         _ => None,
@@ -49,16 +54,30 @@ fn width(frame: &Frame) -> i64 {
     stages.fold(texts.max(NARROWEST), i64::max)
 }
 
+/// The day on which a frame's row was stored.
+fn day(frame: &Frame) -> Option<&str> {
+    frame.row.as_ref()?.time.as_ref().map(|[day, _]| day.as_str())
+}
+
+/// When a row was stored: the second, and the day where that is another than the one before.
+fn time(frame: &Frame, day_before: Option<&str>) -> String {
+    let Some([day, time]) = frame.row.as_ref().and_then(|row| row.time.as_ref()) else { return String::new() };
+    let second = time.split('.').next().unwrap_or_default();
+    if day_before == Some(day) { format!(" {second}") } else { format!(" {day} {second}") }
+}
+
 /// The steps in rows.
 fn rows(frames: &[Frame]) -> Vec<Vec<Column<'_>>> {
-    let (mut rows, mut x) = (vec![Vec::new()], LEFT);
+    let (mut rows, mut x, mut day_before) = (vec![Vec::new()], LEFT, None);
     for (place, frame) in (1..).zip(frames) {
-        let width = width(frame);
+        let (number, time) = (frame.number(place), time(frame, day_before));
+        day_before = day(frame).or(day_before);
+        let width = width(frame, number, &time);
         if x + width > RIGHT {
             rows.push(Vec::new());
             x = LEFT;
         }
-        rows.last_mut().expect("there is a row from the start").push(Column { place, x, width, frame });
+        rows.last_mut().expect("there is a row from the start").push(Column { number, x, width, frame, time });
         x += width;
     }
     rows
@@ -125,8 +144,8 @@ fn steps(shapes: &mut Shapes, row: &[Column], lanes: &[i64], y: i64, clients: us
         let lane = lanes[lane_of(column.frame, clients)];
         let area = Area(column.x + 2, lane, column.width - 4, BOX);
         let refused = column.frame.outcome == Outcome::Refused;
-        let (look, cross) = if refused { ("bold bad", "\u{2715} ") } else { ("soft", "") };
-        shapes.words(column.x + 4, y + 12, look, &format!("{cross}{}", column.place));
+        let (look, cross) = if refused { ("bold bad", CROSS) } else { ("soft", "") };
+        shapes.words(column.x + 4, y + 12, look, &format!("{cross}{}{}", column.number, column.time));
         shapes.step(area, if line.is_empty() { "(empty)" } else { &line }, reply, refused);
     }
 }
@@ -162,7 +181,7 @@ fn refusals(shapes: &mut Shapes, row: &[Column], top: i64) -> i64 {
     let mut y = top;
     for column in row.iter().filter(|column| column.frame.outcome == Outcome::Refused) {
         y += 20;
-        let text = format!("\u{2715} {} refused, {}: {}", column.place, column.frame.reply, column.frame.text);
+        let text = format!("{CROSS}{} refused, {}: {}", column.number, column.frame.reply, column.frame.text);
         shapes.words(24, y, "bold bad", &text);
     }
     y + 20
