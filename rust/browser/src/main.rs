@@ -1,4 +1,4 @@
-//! Opens the pages of sessions in headless Chromium, steps through them, and compares what is shown. `tests/trace` runs it.
+//! Opens the pages of sessions and logs in headless Chromium, steps through them, and compares what is shown. `tests/trace` runs it.
 
 mod chromium;
 mod moments;
@@ -18,7 +18,8 @@ const HELP: &str = "\
 usage: browser CHROMIUM FOLDER
 
 For each NAME.html in FOLDER: opens it, steps from first to last and back, and compares what is shown with NAME.session,
-with NAME.out and NAME.total, which the two programs have printed, and with the model.";
+with NAME.out and NAME.total, which the two programs have printed, and with the model. Where there is NAME.rows, the page
+is of a log with the same steps: that file has the first row and the client whose rows are shown, or - for all.";
 
 /// The most steps that are all gone through by keys and buttons. Longer sessions are tried at their ends and in the middle.
 const MOST_WALKED: usize = 120;
@@ -48,6 +49,14 @@ fn page(file: &Path) -> Outcome<Page> {
         |ending: &str| read(&file.with_extension(ending)).map(|bytes| String::from_utf8_lossy(&bytes).into_owned());
     let (transcript, total) = (text("out")?, text("total")?);
     let moments = moments(&read(&file.with_extension("session"))?, &transcript, &total);
+    let moments = match text("rows") {
+        Err(_) => moments,
+        Ok(rows) => {
+            let (from, client) = rows.trim_end().split_once(' ').ok_or("NAME.rows has a row and a client")?;
+            let from = from.parse().map_err(|_| format!("{from} is no row"))?;
+            moments.map(|moments| moments.of_rows(from, client.parse().ok()))
+        }
+    };
     let bytes = read(file)?.len();
     let name = file.file_stem().unwrap_or_default().to_string_lossy().into_owned();
     Ok(Page { name, address: format!("file://{}", file.display()), bytes, transcript, moments })
@@ -80,7 +89,8 @@ fn check(browser: &mut Chromium, page: &Page) -> Outcome<String> {
     }
     let time = open(browser, page)?;
     let names = browser.evaluate("document.title + '\\n' + document.querySelector('h1').textContent")?;
-    if names != format!("{0}.session\n{0}.session", page.name) {
+    let is_log = page.moments.as_ref().is_some_and(|moments| moments.rows.is_some());
+    if names != format!("{0}.{1}\n{0}.{1}", page.name, if is_log { "log" } else { "session" }) {
         return Err(format!("its title and heading are {names}"));
     }
     let Some(moments) = &page.moments else {

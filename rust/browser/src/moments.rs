@@ -37,6 +37,28 @@ pub struct Moments {
     pub all: Vec<Moment>,
     /// The chain, the total and the rounded total.
     pub results: [String; 3],
+    /// The row of each step, where the page is of a log.
+    pub rows: Option<Vec<usize>>,
+}
+
+impl Moments {
+    /// Those of a log's page that begins before a row, with the rows of all clients or of one. The log has a row for each
+    /// line of the session.
+    pub fn of_rows(self, from: usize, client: Option<u64>) -> Moments {
+        let mut all = self.all;
+        let shown = |moment: &Moment| client.is_none() || moment.mark.as_ref().map(|(of, _)| *of) == client;
+        let rows: Vec<usize> = (from..all.len()).filter(|&row| shown(&all[row])).collect();
+        let before = all[from - 1].clone();
+        let start =
+            Moment { line: String::new(), reply: "start".into(), sentence: None, mark: None, blocked: None, ..before };
+        all = std::iter::once(start).chain(rows.iter().map(|&row| all[row].clone())).collect();
+        Moments { all, rows: Some(rows), ..self }
+    }
+
+    /// The number by which a step is shown.
+    pub fn number(&self, step: usize) -> usize {
+        self.rows.as_ref().map_or(step, |rows| rows[step - 1])
+    }
 }
 
 /// The moments of a session, with what the two programs print for it. None where it is no session.
@@ -64,7 +86,7 @@ pub fn moments(input: &[u8], transcript: &str, total: &str) -> Option<Moments> {
     }
     let mut totals = total.lines().rev();
     let (rounded, total) = (totals.next()?.into(), totals.next()?.into());
-    Some(Moments { all, results: [printed.next()?.into(), total, rounded] })
+    Some(Moments { all, results: [printed.next()?.into(), total, rounded], rows: None })
 }
 
 /// All bytes but printable ASCII by their numbers, and a doubled backslash. The inputs have no letters beyond ASCII.

@@ -27,13 +27,20 @@ pub fn check(browser: &mut Chromium, page: &str, moments: &Moments) -> Outcome<(
     let described: Vec<&str> = described.lines().collect();
     for (place, moment) in moments.all.iter().enumerate().skip(1) {
         let reply = moment.reply.replace("refused: ", "refused, ");
-        let step = format!("{place} {}, {reply}", moment.line);
+        let row = moments.number(place);
+        let step = format!("{row} {}, {reply}", moment.line);
         if !described.get(place).is_some_and(|line| line.starts_with(&step)) {
             return Err(format!("the picture does not describe {step}"));
         }
-        let number = if moment.sentence.is_some() { format!("\u{2715} {place}") } else { place.to_string() };
-        let refusal = moment.sentence.as_ref().map(|sentence| format!("\u{2715} {place} {reply}: {sentence}"));
-        for text in refusal.into_iter().chain([number]) {
+        let number = if moment.sentence.is_some() { format!("\u{2715} {row}") } else { row.to_string() };
+        let refusal = moment.sentence.as_ref().map(|sentence| format!("\u{2715} {row} {reply}: {sentence}"));
+        // A row has its time after its number.
+        let timed = |number: &str| texts.iter().any(|text| text.starts_with(&format!("{number} ")));
+        let is_there = |text: &str| if moments.rows.is_some() { timed(text) } else { known.contains(text) };
+        if !is_there(&number) {
+            return Err(format!("the picture has no number {number}"));
+        }
+        if let Some(text) = refusal {
             if !known.contains(text.as_str()) {
                 return Err(format!("the picture has no text {text}"));
             }

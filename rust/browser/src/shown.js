@@ -29,5 +29,7 @@
     byId("step").className,
     text(byId("told")),
     isSeen(byId("line").parentElement) && ledgers.every(isSeen) ? "seen" : "not seen",
+    text(byId("when")),
+    all(byId("lanes"), "th[data-step]").map(text).join(" "),
   ].join("\u001f");
 })()

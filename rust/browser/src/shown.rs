@@ -33,7 +33,8 @@ fn parts<'a>(
     let place = format!("step {at} of {last}");
     // What a step that is taken says of itself is the trace's own text; the rest of it is compared below.
     let text = moment.sentence.clone().unwrap_or(shown[2].into());
-    let told: Vec<&str> = [&place, &moment.line, &moment.reply, &text]
+    let when = when(shown[18], moments, at);
+    let told: Vec<&str> = [&place, &moment.line, &moment.reply, &text, &when]
         .map(String::as_str)
         .into_iter()
         .filter(|part| !part.is_empty())
@@ -50,7 +51,7 @@ fn parts<'a>(
         ("refused entry", moment.blocked.clone().unwrap_or_default()),
         ("slider", at.to_string()),
         ("place", place),
-        ("current step of the list", if at > 0 { at.to_string() } else { String::new() }),
+        ("current step of the list", if at > 0 { moments.number(at).to_string() } else { String::new() }),
         ("columns", columns.iter().map(usize::to_string).collect::<Vec<_>>().join(" ")),
         ("marks of the lanes", marks(moments, at, columns)),
         ("words of the lanes", words(moments, at, columns)),
@@ -58,8 +59,27 @@ fn parts<'a>(
         ("kind of the step", kind(moment).into()),
         ("spoken", told),
         ("visible", "seen".into()),
+        ("time", when),
+        ("heads of the lanes", heads(moments, columns)),
     ];
     expected.into_iter().zip(shown).map(|((name, expected), &shown)| (name, shown, expected)).collect()
+}
+
+/// The row and its time, which has to be one of these years, in UTC. The rest of it is the trace's own.
+fn when(shown: &str, moments: &Moments, at: usize) -> String {
+    if moments.rows.is_none() || at == 0 {
+        return String::new();
+    }
+    let row = format!("row {}, ", moments.number(at));
+    let time =
+        shown.strip_prefix(&row).filter(|time| time.len() == 30 && time.starts_with("20") && time.ends_with(" UTC"));
+    time.map_or(format!("{row}and its time"), |time| row.clone() + time)
+}
+
+/// The steps by their numbers.
+fn heads(moments: &Moments, columns: &[usize]) -> String {
+    let head = |&step: &usize| if step == 0 { "start".into() } else { moments.number(step).to_string() };
+    columns.iter().map(head).collect::<Vec<_>>().join(" ")
 }
 
 fn kind(moment: &Moment) -> &'static str {

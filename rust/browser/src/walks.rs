@@ -86,7 +86,8 @@ pub fn steps(browser: &mut Chromium, moments: &Moments) -> Outcome<()> {
     let last = moments.all.len() - 1;
     let middle = last.div_ceil(2);
     if last > 0 {
-        browser.click(&format!("document.querySelector('#steps a[href=\"#{middle}\"]')"))?;
+        let number = moments.number(middle);
+        browser.click(&format!("document.querySelector('#steps a[href=\"#{number}\"]')"))?;
         compare(browser, moments, middle, "by the list")?;
         browser.evaluate("scrollTo(0, 0)")?;
         browser.click(&format!("document.querySelector('#lanes th[data-step=\"{middle}\"]')"))?;

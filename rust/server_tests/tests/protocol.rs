@@ -410,6 +410,36 @@ fn waiting_for_rows() {
     assert_eq!(values(&mut other), [7]);
 }
 
+// The rows since the last look, each once, and again from any row on.
+#[test]
+fn rows_from_one_on() {
+    let Some(cluster) = laboratory("rows_from_one_on", "") else { return };
+    let mut one = written(&cluster, "run");
+    let mut other = Store::open(address_of(&cluster, 0, "run")).unwrap();
+    let rows_from = |store: &mut Store, first| {
+        let mut rows = Vec::new();
+        store.each_row_from(first, |row| {
+            rows.push((row.number, row.reply));
+            Ok(())
+        })?;
+        Ok::<_, Error>(rows)
+    };
+    let rows = rows_from(&mut other, 1).unwrap();
+    let last = rows.len() as i64;
+    assert_eq!(rows.last().map(|row| row.0), Some(last));
+    assert_eq!(rows_from(&mut other, last + 1), Ok(vec![]));
+    for place in 0..3 {
+        one.write(0, 7).unwrap();
+        let row = (last + 1 + place, format!("entry {place} place {place}"));
+        assert_eq!(rows_from(&mut other, last + 1 + place), Ok(vec![row]));
+    }
+    let all = rows_from(&mut one, 1).unwrap();
+    assert_eq!(all.len() as i64, last + 3);
+    for first in 1..=last + 4 {
+        assert_eq!(rows_from(&mut other, first).as_deref(), Ok(&all[first as usize - 1..]));
+    }
+}
+
 /// All that a store tells of its rows, marks and rights.
 fn everything(store: &mut Store) -> Vec<String> {
     let mut all = Vec::new();

@@ -131,6 +131,16 @@ fn what_people_read() {
     assert_eq!(rows[4], (5, "entry 0 place 0".into(), Some(7), process(), Some("read/1".into())));
     // A score of 40 quarters of a Phred unit is 0.1 expected errors.
     assert_eq!(rows[5], (6, "entry 1 place 1".into(), Some(100_000_000_000), process(), Some("léger".into())));
+    for first in 1..=7 {
+        let mut numbers = Vec::new();
+        store
+            .each_row_from(first, |row| {
+                numbers.push(row.number);
+                Ok(())
+            })
+            .unwrap();
+        assert!(numbers.into_iter().eq(first..=6), "from {first}");
+    }
     // Too long is refused, and nothing is stored.
     let long = "x".repeat(NOTE_LIMIT + 1);
     let error = store.take_all(&[note(Change::Step(0, Step::write(7)), &long)]).unwrap_err();
