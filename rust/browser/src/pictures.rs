@@ -40,10 +40,8 @@ pub fn check(browser: &mut Chromium, page: &str, moments: &Moments) -> Outcome<(
         if !is_there(&number) {
             return Err(format!("the picture has no number {number}"));
         }
-        if let Some(text) = refusal {
-            if !known.contains(text.as_str()) {
-                return Err(format!("the picture has no text {text}"));
-            }
+        if let Some(text) = refusal.filter(|text| !known.contains(text.as_str())) {
+            return Err(format!("the picture has no text {text}"));
         }
     }
     // The last of the results are the entries along the chain, in lines of their own.

@@ -46,7 +46,8 @@ fn shown(frame: &Frame) -> (String, &str) {
 fn width(frame: &Frame, number: u64, time: &str) -> i64 {
     let (line, reply) = shown(frame);
     let head = if time.is_empty() { 0 } else { number.to_string().len() + CROSS.chars().count() + time.len() };
-    let texts = line.chars().count().max(reply.len()).max(head) as i64 * 15 / 2 + 6;
+    // The head of a refused step is bold.
+    let texts = (line.chars().count().max(reply.len()) as i64 * 15 / 2).max(head as i64 * 8) + 6;
     let stages = frame.changes.iter().filter_map(|change| match change {
         Change::Standing(_, _, to) => Some(stage_room(to.short(), to.classes())),
         _ => None,
