@@ -73,6 +73,11 @@ fn every_command_prints_what_the_page_says() {
     // The pages are of the rows that are asked for.
     let page = fs::read_to_string(folder.path("noon.html")).unwrap();
     assert!(page.contains("<h2>Rows 9 to 17 of 21</h2>"));
+    assert_eq!(
+        (9..=17).filter(|row| page.contains(&format!("<li value={row}><a "))).count(),
+        page.matches("<li value=").count()
+    );
+    assert_eq!(page.matches("<li value=").count(), 9);
     let picture = fs::read_to_string(folder.path("left.svg")).unwrap();
     assert!(picture.contains(">Rows 10 to 21 of 21, those of client 0; times are in UTC</text>"));
 }
