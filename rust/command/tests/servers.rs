@@ -3,6 +3,8 @@
 mod support;
 
 use cindrolf_server_tests::controllers::{address_of, laboratory};
+use std::io::{BufRead, BufReader};
+use std::os::unix::process::ExitStatusExt;
 use support::Folder;
 
 #[test]
@@ -33,6 +35,38 @@ fn a_handover() {
     let checked = folder.output(&["check", guest]);
     assert!(checked.starts_with("ok, 9 rows\nlast row 9:"), "{checked}");
     assert!(checked.contains("\non a server: "), "{checked}");
+}
+
+// Rows that others store come as lines, each once, and a page has them all with their times.
+#[test]
+fn a_log_that_is_watched() {
+    let Some(cluster) = laboratory("a_log_that_is_watched", "") else { return };
+    let folder = Folder::new();
+    let (host, guest) = (&address_of(&cluster, 0, "run"), &address_of(&cluster, 1, "run"));
+    folder.quiet(&["create", host, "2"]);
+    folder.output(&["step", host, "B 0", "F 0", "C 0", "P 0"]);
+    let mut child = folder.program(&["watch", guest]).spawn().unwrap();
+    let mut said = String::new();
+    BufReader::new(child.stderr.as_mut().unwrap()).read_line(&mut said).unwrap();
+    assert_eq!(said, format!("cindrolf: {guest} has 4 rows; a line follows for each that comes\n"));
+    let mut lines = BufReader::new(child.stdout.take().unwrap()).lines();
+    for (number, (log, step, reply)) in (5..).zip([
+        (host, "W 0 201", "entry 0 place 0"),
+        (guest, "N 1", "ok"),
+        (guest, "B 1", "ok"),
+        (host, "W 0 202", "entry 1 place 1"),
+    ]) {
+        folder.output(&["step", log, step]);
+        let line = lines.next().unwrap().unwrap();
+        assert!(line.starts_with(&format!("{number} 20")), "{line}");
+        assert!(line.ends_with(&format!("Z {} {step}: {reply}", support::PROCESS)), "{line}");
+    }
+    support::send(&child, support::SIGINT);
+    assert_eq!(child.wait().unwrap().signal(), Some(support::SIGINT));
+    assert!(lines.next().is_none());
+    let page = folder.output(&["trace", guest, "--from", "5"]);
+    let rows = page.lines().filter(|line| line.starts_with("<li value=") && line.contains(" <small><time>20"));
+    assert_eq!(rows.count(), 4);
 }
 
 #[test]

@@ -74,6 +74,8 @@ fn few_frames() {
     while began.elapsed() < Duration::from_millis(1500) {
         assert!(stepper.take(&format!("W 0 {value}")).contains(" entry "));
         value += 1;
+        // Else a fast disk fills the log before the time is over.
+        std::thread::sleep(Duration::from_millis(2));
     }
     stepper.end();
     terminal.expect(&folder.output(&["show", "run.log"]));
