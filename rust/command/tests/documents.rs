@@ -109,12 +109,14 @@ fn links() {
     }
 }
 
-/// Whether a name in a document is that of a file that is not there: one below a folder of the root, without blanks.
-fn is_missing(name: &str) -> bool {
+/// Whether a name in a document is that of a file that is not there: one below a folder of the root, without blanks. It may
+/// also be beside the document.
+fn is_missing(name: &str, from: &Path) -> bool {
     let allowed = |letter: char| letter.is_ascii_alphanumeric() || "_./-".contains(letter);
     let Some((first, _)) = name.split_once('/') else { return false };
     let is_ours = root().join(first).is_dir() && !first.is_empty() && first != "." && !ASIDE[..2].contains(&first);
-    is_ours && name.chars().all(allowed) && !root().join(name).exists()
+    let beside = root().join(from).with_file_name(name);
+    is_ours && name.chars().all(allowed) && !root().join(name).exists() && !beside.exists()
 }
 
 #[test]
@@ -123,14 +125,16 @@ fn files() {
     for document in documents().iter().filter(|document| !document.is_note()) {
         for name in document.code().into_iter().filter_map(|code| code.split_whitespace().next()) {
             count += usize::from(name.contains('/'));
-            if is_missing(name) {
+            if is_missing(name, &document.place) {
                 wrong.push(format!("{}: {name}", document.place.display()));
             }
         }
     }
     assert!(wrong.is_empty(), "{}", wrong.join("\n"));
     assert!(count > 100, "{count}");
-    assert!(is_missing("docs/nowhere.md") && !is_missing("docs/REFERENCE.md") && !is_missing("and/or"));
+    let missing = |name| is_missing(name, Path::new("examples/README.md"));
+    assert!(missing("docs/nowhere.md") && missing("python/nowhere.py"));
+    assert!(!missing("docs/REFERENCE.md") && !missing("python/shared.py") && !missing("and/or"));
 }
 
 /// The text in which a program's options have to be: its help, or the program itself. None where there is no such program.

@@ -96,7 +96,8 @@ fn the_bytes() {
     let mut store = Store::create(room.file("run.db"), 2, Capacity::Large).unwrap();
     store.set_process_name("p").unwrap();
     let noted = Asked { change: Change::Step(0, Step::BECOME), note: Some("n".into()) };
-    store.take_all(&[noted, Change::SetMark("m".parse().unwrap()).into()]).unwrap();
+    let mark = Change::SetMark("m".parse().unwrap());
+    store.take_all(&[noted, mark.into(), Change::WriteScores(0, vec![40, 372]).into()]).unwrap();
     let mut times = Vec::new();
     let row = |row: store::JournalRow<'_>| {
         times.push(row.time.unwrap() as u64);
@@ -104,16 +105,15 @@ fn the_bytes() {
     };
     store.each_row(row).unwrap();
     let chain = store.last_row().unwrap().chain;
-    let sections: [&[u64]; 10] = [
-        &[1, 2, 4096, 2, (chain >> 64) as u64, chain as u64],
-        &[1 << 60, 0xF << 60 | 11],
+    let sections: [&[u64]; 9] = [
+        &[1, 2, 4096, 3, (chain >> 64) as u64, chain as u64],
+        &[1 << 60, 0xF << 60 | 11, 10 << 60 | 2],
         &[0, u64::from(b'm') << 56],
-        &[],
-        &[1 << 32, 1 << 32],
-        &[0, 1],
+        &[1 << 32; 3],
+        &[0, 1, 2],
         &times,
-        &[1, 1],
-        &[2, 0],
+        &[1, 1, 1],
+        &[2, 0, 0],
         &[1],
     ];
     let mut bytes = b"cindrolf archive\x01\0\0\0\0\0\0\0".to_vec();
@@ -126,9 +126,9 @@ fn the_bytes() {
             bytes.extend(differences.iter().map(|difference| (difference >> (8 * place)) as u8));
         }
     }
-    for text in [b"p", b"n"] {
-        bytes.extend(1u64.to_le_bytes());
-        bytes.extend(text);
+    for section in [&b"p"[..], b"n", &[40, 0, 116, 1]] {
+        bytes.extend((section.len() as u64).to_le_bytes());
+        bytes.extend(section);
     }
     bytes.extend(digest::sha256(&bytes));
     assert_eq!(store.archive().unwrap(), bytes);

@@ -13,9 +13,6 @@ const WIDE: u64 = 15;
 /// The time of a row of which it is not known.
 const NO_TIME: u64 = 1 << 63;
 
-/// How many scores a word has.
-const PACKED: usize = 4;
-
 /// The columns of a log.
 #[derive(Default)]
 pub(super) struct Columns {
@@ -26,8 +23,6 @@ pub(super) struct Columns {
     steps: Vec<u64>,
     /// The client and the number of each wide step.
     wide: Vec<u64>,
-    /// Each score, four to a word.
-    scores: Vec<u64>,
     requests: Vec<u64>,
     parts: Vec<u64>,
     times: Vec<u64>,
@@ -37,9 +32,10 @@ pub(super) struct Columns {
     notes: Vec<u64>,
     /// How long each name of a process is.
     names: Vec<u64>,
-    /// The names, one after the other, and the notes.
+    /// The names, one after the other, the notes, and the scores, two bytes each with the low one first.
     name_bytes: Vec<u8>,
     note_bytes: Vec<u8>,
+    score_bytes: Vec<u8>,
     /// The names as they are looked for.
     known_names: Vec<String>,
 }
@@ -79,8 +75,7 @@ impl Columns {
             self.wide.extend([client, number]);
         }
         if let Change::WriteScores(_, scores) = &row.change {
-            let packed = |four: &[u16]| four.iter().rev().fold(0, |word, &score| word << 16 | u64::from(score));
-            self.scores.extend(scores.chunks(PACKED).map(packed));
+            self.score_bytes.extend(scores.iter().flat_map(|score| score.to_le_bytes()));
         }
         self.requests.push(row.id);
         self.parts.push(row.index);
@@ -108,12 +103,13 @@ impl Columns {
     pub fn bytes(&self) -> Result<Vec<u8>, Error> {
         let mut writer = Writer::new();
         writer.words(&self.head)?;
-        let Columns { steps, wide, scores, requests, parts, times, processes, notes, names, .. } = self;
-        for column in [steps, wide, scores, requests, parts, times, processes, notes, names] {
+        let Columns { steps, wide, requests, parts, times, processes, notes, names, .. } = self;
+        for column in [steps, wide, requests, parts, times, processes, notes, names] {
             writer.words(column)?;
         }
-        writer.bytes(&self.name_bytes);
-        writer.bytes(&self.note_bytes);
+        for bytes in [&self.name_bytes, &self.note_bytes, &self.score_bytes] {
+            writer.bytes(bytes);
+        }
         Ok(writer.finish())
     }
 
@@ -140,12 +136,13 @@ impl Columns {
 
     fn read(reader: &mut Reader<'_>) -> Option<Self> {
         let mut columns = Columns { head: reader.words()?.try_into().ok()?, ..Columns::default() };
-        let Columns { steps, wide, scores, requests, parts, times, processes, notes, names, .. } = &mut columns;
-        for column in [steps, wide, scores, requests, parts, times, processes, notes, names] {
+        let Columns { steps, wide, requests, parts, times, processes, notes, names, .. } = &mut columns;
+        for column in [steps, wide, requests, parts, times, processes, notes, names] {
             *column = reader.words()?;
         }
         columns.name_bytes = reader.bytes()?.to_vec();
         columns.note_bytes = reader.bytes()?.to_vec();
+        columns.score_bytes = reader.bytes()?.to_vec();
         let mut bytes = &columns.name_bytes[..];
         columns.known_names = columns
             .names
@@ -164,7 +161,7 @@ impl Columns {
     pub fn replay(&self, each: &mut EachRow<'_>) -> Result<(), Error> {
         let (clients, capacity) = self.fresh();
         let mut replica = Replica::fresh(clients, capacity)?;
-        let mut left = Left { wide: &self.wide, scores: &self.scores, notes: &self.note_bytes };
+        let mut left = Left { wide: &self.wide, scores: &self.score_bytes, notes: &self.note_bytes };
         for row in 0..self.steps.len() {
             let taken = self.row(row, &mut left, replica.known);
             let (mut taken, note) = taken.ok_or_else(|| Error::NoArchive(format!("its row {} is none", row + 1)))?;
@@ -204,7 +201,7 @@ impl Columns {
 /// What the rows so far have not taken.
 struct Left<'a> {
     wide: &'a [u64],
-    scores: &'a [u64],
+    scores: &'a [u8],
     notes: &'a [u8],
 }
 
@@ -233,11 +230,9 @@ impl Left<'_> {
     }
 
     fn scores(&mut self, count: u64) -> Option<Vec<u16>> {
-        let count = usize::try_from(count).ok()?;
-        let (words, rest) = self.scores.split_at_checked(count.div_ceil(PACKED))?;
+        let (bytes, rest) = self.scores.split_at_checked(usize::try_from(count).ok()?.checked_mul(2)?)?;
         self.scores = rest;
-        let scores = words.iter().flat_map(|word| (0..PACKED).map(move |place| (word >> (16 * place)) as u16));
-        Some(scores.take(count).collect())
+        Some(bytes.as_chunks().0.iter().map(|&score| u16::from_le_bytes(score)).collect())
     }
 }
 
