@@ -336,7 +336,7 @@ struct cindrolf_window_found {
 };
 
 /* Finds the first window of the chain reading, that is `window` words of it in a row, whose values come to more than the limit. Done, or
- * refusal 1, 2 or 20. None is found where no such window goes over, so also where the reading has fewer words. It changes nothing and needs
+ * refusal 1, 2 or 20. None is found if no such window goes over, or if the reading has fewer words. It changes nothing and needs
  * no output buffer. */
 struct cindrolf_window_found cindrolf_first_window(const uint64_t *state, size_t state_length, const uint64_t *entries,
                                                    size_t entries_length, uint64_t window, uint64_t limit);
