@@ -201,9 +201,10 @@ fn a_copy_cut_at_any_byte() {
         let before = proxy.let_through(way);
         file.copy_to(to(&format!("{way:?}"))).unwrap();
         let length = proxy.let_through(way) - before;
-        for bytes in (0..length).step_by(61).chain([length - 1]) {
+        // The last byte may be one of the others, too.
+        for (cut, bytes) in (0..length).step_by(61).chain([length - 1]).enumerate() {
             proxy.limit(way, bytes, Then::End);
-            let log = format!("{way:?} {bytes}");
+            let log = format!("{way:?} {cut}");
             std::thread::scope(|scope| {
                 scope.spawn(|| {
                     std::thread::sleep(Duration::from_millis(15));
