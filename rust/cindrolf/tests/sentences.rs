@@ -62,15 +62,16 @@ fn the_header_has_the_reasons() {
     assert_eq!(numbers, Refusal::ALL.iter().map(|refusal| refusal.number()).collect::<Vec<_>>());
 }
 
-// A row of the reference: | NUMBER | REASON |
+// A row of the reference: | NUMBER | NAME | SENTENCE | and more. tests/reference.rs looks at the others.
 #[test]
 fn the_reference_has_the_reasons() {
-    let (_, section) = REFERENCE.split_once("\n## A refusal in words\n").expect("its section");
+    let (_, section) = REFERENCE.split_once("\n## The refusals\n").expect("its section");
     let section = section.split("\n## ").next().expect("its text");
-    for number in 1..=REFUSALS {
-        let row = format!("| {number} | {} |", reason(number));
-        assert_eq!(section.lines().filter(|line| **line == *row).count(), 1, "{row}");
+    for &refusal in Refusal::ALL {
+        let row = format!("| {} | {refusal:?} | {} | ", refusal.number(), reason(refusal.number()));
+        assert_eq!(section.lines().filter(|line| line.starts_with(&row)).count(), 1, "{row}");
     }
+    assert_eq!(section.lines().filter(|line| line.starts_with("| ")).count(), 1 + REFUSALS as usize);
 }
 
 #[test]

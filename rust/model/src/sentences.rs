@@ -18,13 +18,17 @@ pub const LAST_REFUSAL: u64 = 28;
 
 const REFERENCE: &str = include_str!("../../../docs/REFERENCE.md");
 
-/// The reasons of the refusals from 1 on: the rows of the reference's table of reasons, each of a number and a reason.
+/// How the reference's table of refusals begins.
+const REFUSALS: &str =
+    "\n| Number | Name | Sentence | Condition | Given by | What to do |\n|---|---|---|---|---|---|\n";
+
+/// The reasons of the refusals from 1 on: the sentences of the reference's table of refusals.
 pub static REASONS: LazyLock<Vec<&str>> = LazyLock::new(|| {
-    let (_, table) = REFERENCE.split_once("\n| Refusal | Reason |\n|---|---|\n").expect("the table of reasons");
+    let (_, table) = REFERENCE.split_once(REFUSALS).expect("the table of refusals");
     let rows = table.lines().take_while(|line| line.starts_with('|'));
     let numbered = rows.map(|line| match line.split('|').map(str::trim).collect::<Vec<_>>()[..] {
-        ["", number, reason, ""] => (number.parse::<u64>().expect(line), reason),
-        _ => panic!("no row of a number and a reason: {line}"),
+        ["", number, _, reason, _, _, _, ""] => (number.parse::<u64>().expect(line), reason),
+        _ => panic!("no row of six columns: {line}"),
     });
     let (numbers, reasons): (Vec<_>, Vec<_>) = numbered.unzip();
     assert!(numbers.into_iter().eq(1..=LAST_REFUSAL), "a row for each refusal, in their order");
