@@ -196,3 +196,16 @@ fn commands() {
         assert!(mistake(code).is_some(), "{code}");
     }
 }
+
+// The reference has a line for each subcommand, the one of the overview, and no more of the manual.
+#[test]
+fn subcommands() {
+    let read = |place: &str| fs::read_to_string(root().join(place)).expect(place);
+    let (overview, reference) = (read("rust/command/help/cindrolf.txt"), read("docs/REFERENCE.md"));
+    let lines = overview.lines().filter_map(|line| line.strip_prefix("  ").filter(|line| !line.starts_with(' ')));
+    let lines = lines.map(|line| line.split_once("  ").expect("a name and what it does"));
+    let expected: Vec<_> = lines.map(|(name, does)| format!("| `{name}` | {} |", does.trim())).collect();
+    let (_, table) = reference.split_once("\n| Subcommand | Does |\n|---|---|\n").expect("the table of subcommands");
+    let found: Vec<_> = table.lines().take_while(|line| line.starts_with('|')).collect();
+    assert_eq!(found, expected);
+}

@@ -79,6 +79,8 @@ fn the_reference_has_the_limits() {
         ("bytes of a row's note", limits::NOTE_LIMIT as u64),
         ("bytes of the name of a row's process", limits::PROCESS_LIMIT as u64),
         ("lines that `step` takes as one request", limits::BATCH_LIMIT as u64),
+        ("reads that `write` takes as one request", limits::BATCH_LIMIT as u64),
+        ("rows that a page shows", limits::PAGE_ROW_LIMIT as u64),
         ("bytes of a plan's file", limits::PLAN_LIMIT as u64),
         ("bytes of a line of reads", limits::READ_LINE_LIMIT as u64),
         ("bytes of one field of its file", limits::FIELD_LIMIT as u64),
