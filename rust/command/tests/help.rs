@@ -86,6 +86,45 @@ fn the_examples_run() {
     assert_eq!(folder.output(&["chain", "copy.db"]), "chain 0:201 0:1000000000 0:202\n");
 }
 
+/// The names of the fields of an object: what is in quotes before a colon.
+fn fields(json: &str) -> Vec<&str> {
+    let parts: Vec<_> = json.split('"').collect();
+    parts.windows(2).filter(|pair| pair[1].starts_with(':')).map(|pair| pair[0]).collect()
+}
+
+// The help is the only manual of what scripts read: it has the name of every field and of every column.
+#[test]
+fn the_fields_are_in_the_help() {
+    let folder = Folder::new();
+    folder.output(&["create", "run.db", "2"]);
+    folder.output(&["step", "run.db", "B 0", "F 0", "C 0", "P 0", "W 0 201"]);
+    folder.output(&["mark", "run.db", "wash"]);
+    std::fs::write(folder.path("next.plan"), "W 0 202\n").unwrap();
+    for (args, count) in [
+        (&["show", "--json", "run.db"][..], 20),
+        (&["total", "--json", "run.db"], 9),
+        (&["window", "--json", "run.db", "1", "0.000"], 6),
+        (&["advise", "--json", "run.db", "0"], 4),
+        (&["mark", "--json", "run.db"], 3),
+        (&["check", "--json", "run.db"], 6),
+        (&["forecast", "--json", "run.db", "next.plan"], 4),
+        (&["plan", "--json", "run.db", "next.plan"], 4),
+        (&["chain", "--csv", "run.db"], 7),
+        (&["steps", "--csv", "run.db"], 10),
+    ] {
+        let output = folder.output(args);
+        let columns = || output.lines().next().unwrap_or_default().split(',').collect();
+        let names = if args[1] == "--csv" { columns() } else { fields(&output) };
+        assert!(names.len() >= count, "{args:?}: {names:?}");
+        let help = help(args[0]);
+        let (_, option) = help.split_once(&format!("\n  {}  ", args[1])).expect("the option");
+        let words: Vec<_> = option.split(|letter: char| !letter.is_ascii_lowercase() && letter != '_').collect();
+        for name in names {
+            assert!(words.contains(&name), "{args:?}: {name}");
+        }
+    }
+}
+
 #[test]
 fn an_unknown_subcommand() {
     let folder = Folder::new();
