@@ -60,7 +60,7 @@ fn the_rights_are_the_bits() {
     }
 }
 
-// A named leader at each stage, who remembers no ledger, is advised the step of its stage: at 5 it is the write.
+// A named leader at each stage that remembers no ledger is advised the step of its stage: at 5 it is the write.
 #[test]
 fn the_stages_are_those_of_the_adviser() {
     let names: Vec<_> =
