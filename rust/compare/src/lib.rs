@@ -3,6 +3,7 @@
 pub mod arguments;
 pub mod buffers;
 pub mod call;
+pub mod forty;
 pub mod histories;
 pub mod logs;
 pub mod marks;

@@ -1,4 +1,4 @@
-//! The logs whose every single-bit change is tried.
+//! The logs whose every single-bit change every run tries.
 
 use crate::call::{Buffers, Call};
 use model::layout::{ENTRY_WORDS, Head, SMALL_ENTRY_WORDS, STATE_WORDS};
@@ -8,7 +8,7 @@ use model::{Answer, Step, rights, words};
 /// A log, and the step that is tried on each change of it.
 pub struct Named {
     /// What it is.
-    pub name: &'static str,
+    pub name: String,
     /// The log.
     pub buffers: Buffers,
     /// A step that it accepts.
@@ -20,7 +20,8 @@ pub fn fresh(client_count: u64) -> Buffers {
     fresh_with(client_count, ENTRY_WORDS)
 }
 
-fn fresh_with(client_count: u64, capacity: usize) -> Buffers {
+/// The same, with room for so many entries.
+pub fn fresh_with(client_count: u64, capacity: usize) -> Buffers {
     let (mut state, mut entries) = (vec![0; STATE_WORDS], vec![0; capacity]);
     assert_eq!(words::fresh(&mut state, &mut entries, client_count), Answer::Done);
     let (marks, rights) = (vec![0; MARK_WORDS], rights::all(client_count));
@@ -28,21 +29,23 @@ fn fresh_with(client_count: u64, capacity: usize) -> Buffers {
 }
 
 /// The log with so many marks, whose names are 1, 2 and so on, spread over its entries.
-fn marked(mut log: Buffers, count: u64) -> Buffers {
+pub fn marked(mut log: Buffers, count: u64) -> Buffers {
     let entry_count = Head::load(log.state[0]).0.entry_count;
     let at = |name: u64| Mark { name, count: entry_count * name / count };
     log.marks = marks::buffer(&(1..=count).map(at).collect::<Vec<_>>());
     log
 }
 
-fn take(log: &mut Buffers, client: u64, steps: &[Step]) {
+/// Takes steps of the model, none of which may be refused.
+pub fn take(log: &mut Buffers, client: u64, steps: &[Step]) {
     for &step in steps {
         let answer = words::step(&mut log.state, &mut log.entries, client, step);
         assert!(!matches!(answer, Answer::Refused(_)), "{client} {step:?}: {answer:?}");
     }
 }
 
-const LEAD: [Step; 4] = [Step::Become, Step::Fetch, Step::Create, Step::Append];
+/// By these steps the first client gets to write in a fresh log.
+pub const LEAD: [Step; 4] = [Step::Become, Step::Fetch, Step::Create, Step::Append];
 
 fn one_ledger() -> Buffers {
     let mut log = fresh(2);
@@ -63,7 +66,8 @@ pub fn chain(client_count: u64, ledgers: u64, entries: u64) -> Buffers {
     chain_from(fresh(client_count), ledgers, entries)
 }
 
-fn chain_from(mut log: Buffers, ledgers: u64, entries: u64) -> Buffers {
+/// A fresh log with so many ledgers and entries.
+pub fn chain_from(mut log: Buffers, ledgers: u64, entries: u64) -> Buffers {
     take(&mut log, 0, &[Step::Become, Step::Fetch]);
     let mut written = 0;
     for ledger in 1..=ledgers {
@@ -84,11 +88,13 @@ fn chain_from(mut log: Buffers, ledgers: u64, entries: u64) -> Buffers {
 pub fn all() -> Vec<Named> {
     let full = chain(16, 255, ENTRY_WORDS as u64);
     let small = chain_from(fresh_with(2, SMALL_ENTRY_WORDS), 3, SMALL_ENTRY_WORDS as u64);
+    let named =
+        |name: &str, buffers, client, step| Named { name: name.into(), buffers, step: Call::Step(client, step) };
     vec![
-        Named { name: "fresh", buffers: fresh(3), step: Call::Step(0, Step::Become) },
-        Named { name: "one ledger", buffers: marked(one_ledger(), 1), step: Call::Step(0, Step::Write(9)) },
-        Named { name: "mid-handover", buffers: marked(handover(), 3), step: Call::Step(1, Step::CloseLast) },
-        Named { name: "full", buffers: marked(full, LIMIT as u64), step: Call::Step(0, Step::CloseOwn) },
-        Named { name: "small and full", buffers: marked(small, 2), step: Call::Step(0, Step::CloseOwn) },
+        named("fresh", fresh(3), 0, Step::Become),
+        named("one ledger", marked(one_ledger(), 1), 0, Step::Write(9)),
+        named("mid-handover", marked(handover(), 3), 1, Step::CloseLast),
+        named("full", marked(full, LIMIT as u64), 0, Step::CloseOwn),
+        named("small and full", marked(small, 2), 0, Step::CloseOwn),
     ]
 }

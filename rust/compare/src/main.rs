@@ -2,8 +2,9 @@
 
 use compare::sides::Sides;
 use compare::storage::{self, Counts};
-use compare::{arguments, buffers, call, histories, logs, sentences, sweep, texts};
+use compare::{arguments, buffers, call, forty, histories, logs, sentences, sweep, texts};
 use model::random::Random;
+use std::fmt;
 use std::process::ExitCode;
 use std::time::{Duration, Instant};
 
@@ -15,6 +16,7 @@ Compares the proved library with the model: every call on both, then the answers
               (default 1000000); and a hundredth as many that rearrange or restore words, and an eighth as many
               for refusals in words, each written and read
   --no-sweep  without every single-bit change of five logs, of their marks and of their rights
+  --all-logs  with forty logs in place of the five: empty to full, clients at each stage, both capacities
   --help      this text
 
 A difference is printed with the smallest case found that shows it, and the exit status is 1.";
@@ -23,11 +25,12 @@ struct Options {
     seed: u64,
     calls: u64,
     sweep: bool,
+    all_logs: bool,
 }
 
 /// The options, or what is wrong with them.
 fn options(mut args: impl Iterator<Item = String>) -> Result<Options, String> {
-    let mut options = Options { seed: 1, calls: 1_000_000, sweep: true };
+    let mut options = Options { seed: 1, calls: 1_000_000, sweep: true, all_logs: false };
     while let Some(arg) = args.next() {
         let mut number = || {
             let text = args.next().ok_or(format!("{arg} wants a number"))?;
@@ -37,6 +40,7 @@ fn options(mut args: impl Iterator<Item = String>) -> Result<Options, String> {
             "--seed" => options.seed = number()?,
             "--calls" => options.calls = number()?,
             "--no-sweep" => options.sweep = false,
+            "--all-logs" => options.all_logs = true,
             _ => return Err(format!("unknown option '{arg}'\n\n{HELP}")),
         }
     }
@@ -84,20 +88,42 @@ fn run_texts(options: &Options, met: &mut texts::Met) -> Result<(), String> {
     (0..options.calls / 8).try_for_each(|_| texts::any(texts::library, &mut random, met))
 }
 
-fn run(options: &Options, sides: &mut Sides) -> Result<(), String> {
-    let mut progress = Progress { start: Instant::now(), last: Duration::ZERO };
-    for log in logs::all() {
+/// How many single-bit changes were compared.
+#[derive(Default)]
+struct Swept {
+    logs: u64,
+    of_logs: u64,
+    of_marks: u64,
+    of_rights: u64,
+}
+
+impl fmt::Display for Swept {
+    fn fmt(&self, f: &mut fmt::Formatter<'_>) -> fmt::Result {
+        let Swept { logs, of_logs, of_marks, of_rights } = self;
+        writeln!(f, "single-bit changes of {logs} logs: {of_logs}, of their marks {of_marks}, of rights {of_rights}")
+    }
+}
+
+/// Each log as it is, and with every single-bit change.
+fn run_logs(options: &Options, sides: &mut Sides, progress: &mut Progress, swept: &mut Swept) -> Result<(), String> {
+    for log in if options.all_logs { forty::all() } else { logs::all() } {
         sweep::undamaged(call::library, sides, &log)?;
-        if options.sweep {
-            sweep::mark_changes(call::library, sides, &log)?;
-            sweep::rights_changes(call::library, sides, &log)?;
+        if !options.sweep {
+            continue;
         }
-        let bits = if options.sweep { sweep::bits(&log) } else { 0 };
+        swept.of_marks += sweep::mark_changes(call::library, sides, &log)?;
+        swept.of_rights += sweep::rights_changes(call::library, sides, &log)?;
+        let bits = sweep::bits(&log);
         for start in (0..bits).step_by(4096) {
-            sweep::changes(call::library, sides, &log, start..bits.min(start + 4096))?;
+            swept.of_logs += sweep::changes(call::library, sides, &log, start..bits.min(start + 4096))?;
             progress.show(&format!("single-bit changes of the log '{}'", log.name), sides);
         }
+        swept.logs += 1;
     }
+    Ok(())
+}
+
+fn run_random(options: &Options, sides: &mut Sides, progress: &mut Progress) -> Result<(), String> {
     let mut random = Random::new(options.seed);
     let (first, mut in_histories) = (sides.tally.calls(), 0);
     loop {
@@ -123,12 +149,14 @@ fn main() -> ExitCode {
     println!("compare: seed {}, {} random calls", options.seed, options.calls);
     let mut sides = Sides::new(call::library);
     let (mut counts, mut written, mut read) = (Counts::default(), sentences::Met::default(), texts::Met::default());
-    let start = Instant::now();
-    let result = run(&options, &mut sides)
+    let (start, mut swept) = (Instant::now(), Swept::default());
+    let mut progress = Progress { start, last: Duration::ZERO };
+    let result = run_logs(&options, &mut sides, &mut progress, &mut swept)
+        .and_then(|()| run_random(&options, &mut sides, &mut progress))
         .and_then(|()| run_storage(&options, &mut counts))
         .and_then(|()| run_sentences(&options, &mut written))
         .and_then(|()| run_texts(&options, &mut read));
-    print!("{}{counts}{written}{read}", sides.tally);
+    print!("{}{counts}{written}{read}{swept}", sides.tally);
     let never = sides.tally.never_met();
     if !never.is_empty() {
         println!("never met: {}", never.join(", "));

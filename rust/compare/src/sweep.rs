@@ -57,13 +57,13 @@ fn every_step() -> Vec<u64> {
 }
 
 /// Compares the check and the log's step on the log with each of these bits changed, one at a time. Bit 64 × i + j is
-/// bit j of word i, the entry words standing behind those of the state.
-pub fn changes(subject: Subject, sides: &mut Sides, log: &Named, bits: Range<usize>) -> Result<(), String> {
+/// bit j of word i, where the entry words come after those of the state. Says how many changes these were.
+pub fn changes(subject: Subject, sides: &mut Sides, log: &Named, bits: Range<usize>) -> Result<u64, String> {
     each_change(subject, sides, log, &log.buffers, &[Call::WellFormed, log.step], bits)
 }
 
-/// Compares the calls on marks with each bit of the marks buffer changed, one at a time.
-pub fn mark_changes(subject: Subject, sides: &mut Sides, log: &Named) -> Result<(), String> {
+/// Compares the calls on marks with each bit of the marks buffer changed, one at a time. Says how many changes these were.
+pub fn mark_changes(subject: Subject, sides: &mut Sides, log: &Named) -> Result<u64, String> {
     let mut buffers = log.buffers.clone();
     buffers.output = vec![3; ENTRY_WORDS];
     let first = bits(log);
@@ -71,16 +71,17 @@ pub fn mark_changes(subject: Subject, sides: &mut Sides, log: &Named) -> Result<
 }
 
 /// Compares every step by the first two clients with each bit of the rights changed, one at a time: of all rights, so that one is missing
-/// or one too many is set, and of none, so that there is just one.
-pub fn rights_changes(subject: Subject, sides: &mut Sides, log: &Named) -> Result<(), String> {
+/// or one too many is set, and of none, so that there is just one. Says how many changes these were.
+pub fn rights_changes(subject: Subject, sides: &mut Sides, log: &Named) -> Result<u64, String> {
     let calls: Vec<Call> = (0..2).flat_map(|client| Step::ALL.map(|step| Call::StepWith(client, step))).collect();
     let mut buffers = log.buffers.clone();
     let first = bits(log) + 64 * MARK_WORDS;
+    let mut count = 0;
     for rights in [buffers.rights.clone(), vec![0; RIGHTS_WORDS]] {
         buffers.rights = rights;
-        each_change(subject, sides, log, &buffers, &calls, first..first + 64 * RIGHTS_WORDS)?;
+        count += each_change(subject, sides, log, &buffers, &calls, first..first + 64 * RIGHTS_WORDS)?;
     }
-    Ok(())
+    Ok(count)
 }
 
 /// The calls on marks: by the name of the first mark, by that of the last of 32, by one that no log here keeps, and by 0, which is one
@@ -107,7 +108,8 @@ fn each_change(
     buffers: &Buffers,
     calls: &[Call],
     bits: Range<usize>,
-) -> Result<(), String> {
+) -> Result<u64, String> {
+    let mut count = 0;
     sides.set(buffers);
     for bit in bits {
         sides.edit(|lent| flip(lent, bit));
@@ -126,8 +128,9 @@ fn each_change(
             }
         }
         sides.edit(|lent| flip(lent, bit));
+        count += 1;
     }
-    Ok(())
+    Ok(count)
 }
 
 /// The number of bits of a log. Those of its marks stand behind them, and those of the rights behind these.
