@@ -31,7 +31,7 @@ const MARGIN: f64 = 60.0;
 const BESIDE: usize = 2;
 const COLOURS: [&str; 5] = ["#1b6ca8", "#c0392b", "#7f8c8d", "#27862f", "#8e44ad"];
 
-/// The panels, two in a row, with one legend.
+/// The panels, two in a row: with one legend below them where all have the lines of the same names, or else with one for each.
 pub fn svg(panels: &[Panel]) -> String {
     let (columns, rows) = (panels.len().min(BESIDE), panels.len().div_ceil(BESIDE));
     let below = HEIGHT + 1.5 * MARGIN;
@@ -40,17 +40,32 @@ pub fn svg(panels: &[Panel]) -> String {
         "<svg xmlns='http://www.w3.org/2000/svg' width='{width}' height='{height}' \
          font-family='sans-serif' font-size='12'>\n<rect width='100%' height='100%' fill='white'/>\n"
     );
+    let alike = panels.iter().all(|panel| names(panel).eq(panels.iter().take(1).flat_map(names)));
     for (index, each) in panels.iter().enumerate() {
         let (column, row) = ((index % BESIDE) as f64, (index / BESIDE) as f64);
-        panel(&mut text, each, MARGIN + column * (WIDTH + MARGIN), MARGIN / 2.0 + row * below);
+        let (left, top) = (MARGIN + column * (WIDTH + MARGIN), MARGIN / 2.0 + row * below);
+        panel(&mut text, each, left, top);
+        if !alike {
+            legend(&mut text, each, left, top + HEIGHT + 56.0, WIDTH / 4.0);
+        }
     }
-    for (index, line) in panels.iter().take(1).flat_map(|panel| &panel.lines).enumerate() {
-        let (x, y) = (MARGIN + index as f64 * 160.0, height - 20.0);
-        let colour = COLOURS[index % COLOURS.len()];
-        let _ = writeln!(text, "<rect x='{x}' y='{}' width='20' height='4' fill='{colour}'/>", y - 6.0);
-        let _ = writeln!(text, "<text x='{}' y='{y}'>{}</text>", x + 26.0, line.name);
+    if let Some(first) = panels.first().filter(|_| alike) {
+        legend(&mut text, first, MARGIN, height - 20.0, 160.0);
     }
     text + "</svg>\n"
+}
+
+fn names(panel: &Panel) -> impl Iterator<Item = &str> {
+    panel.lines.iter().map(|line| line.name)
+}
+
+/// The colours of a panel's lines, so far apart.
+fn legend(text: &mut String, panel: &Panel, left: f64, y: f64, apart: f64) {
+    for (index, (name, colour)) in names(panel).zip(COLOURS.iter().cycle()).enumerate() {
+        let x = left + index as f64 * apart;
+        let _ = writeln!(text, "<rect x='{x}' y='{}' width='20' height='4' fill='{colour}'/>", y - 6.0);
+        let _ = writeln!(text, "<text x='{}' y='{y}'>{name}</text>", x + 26.0);
+    }
 }
 
 /// Where a panel's points are along x, each with the number that is written there.
@@ -89,5 +104,35 @@ fn panel(text: &mut String, panel: &Panel, left: f64, top: f64) {
         let places: Vec<String> = line.points.iter().map(place).collect();
         let _ =
             writeln!(text, "<polyline points='{}' fill='none' stroke='{colour}' stroke-width='2'/>", places.join(" "));
+    }
+}
+
+#[cfg(test)]
+mod tests {
+    use super::*;
+
+    fn panel(title: &'static str, names: &[&'static str]) -> Panel {
+        let lines = names.iter().map(|&name| Line { name, points: vec![(1.0, 2.0), (3.0, 4.0)] }).collect();
+        Panel { title, unit: "ms", decimals: 0, even: true, lines }
+    }
+
+    fn count(panels: &[Panel], text: &str) -> usize {
+        svg(panels).matches(text).count()
+    }
+
+    #[test]
+    fn one_legend_where_all_lines_are_alike() {
+        let panels = [panel("rows", &["store", "plain"]), panel("logs", &["store", "plain"])];
+        for name in [">rows<", ">logs<", ">store<", ">plain<"] {
+            assert_eq!(count(&panels, name), 1, "{name}");
+        }
+    }
+
+    #[test]
+    fn a_legend_for_each_where_they_are_not() {
+        let panels = [panel("rows", &["store", "plain"]), panel("logs", &["store"]), panel("entries", &["check"])];
+        for (name, expected) in [(">store<", 2), (">plain<", 1), (">check<", 1), ("<polyline", 4)] {
+            assert_eq!(count(&panels, name), expected, "{name}");
+        }
     }
 }

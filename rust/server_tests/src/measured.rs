@@ -4,7 +4,6 @@ use crate::cluster::{Cluster, address};
 use crate::controllers::{furnish, role};
 use crate::plain::{self, Plain};
 use crate::proxy::Proxy;
-use std::io::{Seek, Write};
 use std::path::{Path, PathBuf};
 use std::sync::Barrier;
 use std::sync::atomic::{AtomicBool, AtomicU64, Ordering};
@@ -12,16 +11,10 @@ use std::thread::{Scope, ScopedJoinHandle, scope, sleep};
 use std::time::{Duration, Instant};
 use store::{Error, Store};
 use store_tests::rotating::{Logs, name_of};
-use store_tests::scratch::Scratch;
-use store_tests::sides::{SLOT, Side};
+use store_tests::sides::{BESIDE, STORE, Side, side_at};
 
 /// How often a follower looks.
 const LOOK: Duration = Duration::from_millis(10);
-
-/// The side of the store's single writes.
-pub const STORE: usize = 0;
-/// The side of what they are compared with.
-pub const BESIDE: usize = 1;
 
 /// What the store's single writes are compared with.
 #[derive(Clone, Copy, Debug, PartialEq, Eq)]
@@ -72,33 +65,6 @@ pub fn server() -> Cluster {
     furnish(&cluster, &store::schema());
     plain::make(&cluster);
     cluster
-}
-
-/// How many syncs are timed.
-const SYNCS: usize = 201;
-
-/// What the disk and the other programs of this computer are like just now.
-pub fn machine() -> String {
-    let load = std::fs::read_to_string("/proc/loadavg").unwrap_or_default();
-    let load = load.split(' ').take(3).collect::<Vec<_>>().join(" ");
-    let sync = sync().as_micros();
-    format!("A sync of a page takes {sync} µs, the median of {SYNCS}. The load before is {load}.")
-}
-
-/// How long the disk takes for a page, in a file that has its length already.
-fn sync() -> Duration {
-    let scratch = Scratch::new();
-    let mut file = std::fs::File::create(scratch.folder().join("page")).expect("a file");
-    let mut page = |round: usize| {
-        file.rewind().and_then(|()| file.write_all(&[round as u8; 8_192])).expect("a page");
-        let began = Instant::now();
-        file.sync_data().expect("a sync");
-        began.elapsed()
-    };
-    page(0);
-    let mut times: Vec<Duration> = (0..SYNCS).map(page).collect();
-    times.sort();
-    times[SYNCS / 2]
 }
 
 /// A run that goes on.
@@ -223,11 +189,6 @@ fn look(followed: &mut Option<(u64, Store)>, logs: &Path, number: u64) -> Result
         store.latest()?;
     }
     Ok(())
-}
-
-/// The side whose turn it is so long after the beginning.
-pub fn side_at(gone: Duration) -> usize {
-    (gone.as_millis() / SLOT.as_millis() % 2) as usize
 }
 
 /// What one writer has open.

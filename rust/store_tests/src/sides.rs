@@ -5,6 +5,16 @@ use std::time::Duration;
 /// How long a side has its turn.
 pub const SLOT: Duration = Duration::from_millis(100);
 
+/// The side of the store's single writes.
+pub const STORE: usize = 0;
+/// The side of what they are compared with.
+pub const BESIDE: usize = 1;
+
+/// The side whose turn it is so long after the beginning.
+pub fn side_at(gone: Duration) -> usize {
+    (gone.as_millis() / SLOT.as_millis() % 2) as usize
+}
+
 /// What one writer did on one side.
 #[derive(Clone, Copy, Default)]
 pub struct Side {

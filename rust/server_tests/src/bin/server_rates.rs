@@ -1,12 +1,13 @@
 //! Acknowledged writes a second, by the store on a server beside plain inserts through libpq: every 100 ms all writers change
 //! from one to the other.
 
-use cindrolf_server_tests::measured::{BESIDE, Beside, STORE, Setup, machine, measured, server};
+use cindrolf_server_tests::measured::{Beside, Setup, measured, server};
 use cindrolf_server_tests::programs;
 use std::process::ExitCode;
 use std::time::Duration;
+use store_tests::machine::machine;
 use store_tests::rotating::MANY;
-use store_tests::sides::{jain, longest, rate};
+use store_tests::sides::{BESIDE, STORE, jain, longest, rate};
 
 const USAGE: &str = "usage: server_rates [--seconds N] [--row N]";
 
@@ -76,7 +77,7 @@ fn rows() -> [Row; 10] {
 }
 
 fn tables((seconds, only): (u64, Option<usize>)) -> Result<(), String> {
-    println!("{}", machine());
+    println!("{}", machine(&std::env::temp_dir()));
     let cluster = server();
     let time = Duration::from_secs(seconds);
     println!("\n| Writers | Plain | Store | Store / plain | At least | Goal | Jain's index | Longest wait |");
