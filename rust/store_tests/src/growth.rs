@@ -79,10 +79,10 @@ pub fn panel_of_times(title: &'static str, points: &[Point]) -> Panel {
 }
 
 /// A panel of the microseconds that each takes.
-pub fn panel_of_micros(title: &'static str, points: &[Point]) -> Panel {
+pub fn panel_of_micros(title: &'static str, unit: &'static str, points: &[Point]) -> Panel {
     let line = |name, y: fn(&Point) -> f64| Line { name, points: points.iter().map(|at| (at.x, y(at))).collect() };
     let lines = vec![line("the store", |at| micros(at.store)), line("plain SQLite", |at| micros(at.plain))];
-    Panel { title, unit: "µs a write", decimals: 0, even: true, lines }
+    Panel { title, unit, decimals: 0, even: true, lines }
 }
 
 /// How often what takes long is timed.

@@ -20,6 +20,7 @@ pub mod plain;
 pub mod plans;
 pub mod processes;
 pub mod program;
+pub mod reads;
 pub mod refusals;
 pub mod rotating;
 pub mod scratch;

@@ -1,18 +1,17 @@
 //! How the cost of a log in a file grows with processes, with the time of a sync, with rows and with entries: tables, and a
 //! picture of them.
 
-use cindrolf::{Capacity, Step};
-use limits::BATCH_LIMIT;
 use plot::{Line, Panel};
 use std::path::{Path, PathBuf};
 use std::process::ExitCode;
-use store::{Asked, Change, Error, Store};
+use store::{Error, Store};
 use store_tests::growth::{self, Options, Point, grow, micros, millis, panel_of_micros};
 use store_tests::long::{Long, ROWS};
 use store_tests::machine::machine;
 use store_tests::measured::{PLAIN, measured, work};
 use store_tests::plain::Plain;
 use store_tests::processes::WORKER;
+use store_tests::reads;
 use store_tests::scratch::Scratch;
 use store_tests::sides::{BESIDE, STORE, rate};
 
@@ -63,12 +62,13 @@ fn all(options: &Options, folder: &Path) -> Result<(), String> {
     let of_sync = grow(sync, "µs a write", micros, &DELAYS, |delay| sides(1, delay))?;
     let (steps, whole) = rows(options.seconds, folder).map_err(|error| error.to_string())?;
     let (times, sizes) = entries(folder).map_err(|error| error.to_string())?;
-    let of_both = [(processes, of_processes), (sync, of_sync), ("rows in the log", steps)];
-    let of_both = of_both.map(|(title, points)| panel_of_micros(title, &points));
-    growth::save(options, &of_both.into_iter().chain([whole, times, sizes]).collect::<Vec<_>>())
+    let of_processes = panel_of_micros(processes, "µs a write", &of_processes);
+    let of_sync = Panel { even: false, ..panel_of_micros(sync, "µs a write", &of_sync) };
+    let of_steps = panel_of_micros("rows in the log", "µs a step, or a plain write", &steps);
+    growth::save(options, &[of_processes, of_sync, of_steps, whole, times, sizes])
 }
 
-/// A panel whose lines have a column each, by rising x.
+/// A panel on a scale, whose lines have a column each, by rising x.
 fn panel<const N: usize>(
     title: &'static str,
     unit: &'static str,
@@ -77,7 +77,7 @@ fn panel<const N: usize>(
 ) -> Panel {
     let line = |column: usize| at.iter().map(|&(x, ys)| (x, ys[column])).collect();
     let lines = names.into_iter().enumerate().map(|(column, name)| Line { name, points: line(column) }).collect();
-    Panel { title, unit, decimals: 0, even: true, lines }
+    Panel { title, unit, decimals: 0, even: false, lines }
 }
 
 /// What a step takes in a log of so many rows, and what takes all of them.
@@ -151,13 +151,7 @@ fn entries(folder: &Path) -> Result<(Panel, Panel), Error> {
     let (mut times, mut sizes) = (Vec::new(), Vec::new());
     for entries in ENTRIES {
         let room = Scratch::below(folder);
-        let mut store = Store::create(room.file("run.db"), 2, Capacity::Large)?;
-        let lead = [Step::BECOME, Step::FETCH, Step::CREATE, Step::APPEND];
-        let writes = (0..entries).map(|value| Step::write(value * 1_000_003));
-        let steps: Vec<Asked> = lead.into_iter().chain(writes).map(|step| Change::Step(0, step).into()).collect();
-        for request in steps.chunks(BATCH_LIMIT) {
-            assert!(store.take_all(request)?.iter().all(Result::is_ok));
-        }
+        let mut store = reads::create(&room.file("run.db"), entries)?;
         let took = Whole::of(&mut store, &room)?;
         println!("| {entries} | {} | {:.0} | {:.0} |", took.columns(), took.file_bytes, took.archive_bytes);
         times.push((entries as f64, took.times));
