@@ -111,3 +111,50 @@ pub fn save(options: &Options, panels: &[Panel]) -> Result<(), String> {
         None => Ok(()),
     }
 }
+
+#[cfg(test)]
+mod tests {
+    use super::*;
+
+    #[test]
+    fn options_are_those_of_growth_and_the_programs_own() {
+        let mut folder = String::new();
+        let words = ["--folder", "/tmp/x", "--seconds", "7", "--plot", "a.svg"];
+        let mut own = |name: &str, text: &str| {
+            folder = text.into();
+            name == "--folder"
+        };
+        let given = options(&words, "usage", &mut own).expect("these are options");
+        assert_eq!((given.seconds, given.plot, folder.as_str()), (7, Some("a.svg".into()), "/tmp/x"));
+        let words: [&[&str]; 5] =
+            [&["--seconds", "0"], &["--seconds", "x"], &["--seconds"], &["--folder", "/tmp"], &["7"]];
+        for words in words {
+            assert_eq!(options(words, "usage", |_, _| false).err().as_deref(), Some("usage"), "{words:?}");
+        }
+    }
+
+    #[test]
+    fn a_store_of_half_the_writes_takes_twice_as_long() {
+        let rates = |number: u64| Ok([500.0 / number as f64, 1_000.0]);
+        let points = grow("processes", "µs a write", micros, &[1, 2], rates).expect("no run fails");
+        let lines = |panel: Panel| panel.lines.into_iter().map(|line| (line.name, line.points)).collect::<Vec<_>>();
+        let times = lines(panel_of_times("processes", &points));
+        assert_eq!(times[0], ("the store", vec![(1.0, 2.0), (2.0, 4.0)]));
+        assert_eq!(times[1], ("plain inserts", vec![(1.0, 1.0), (2.0, 1.0)]));
+        let micros = lines(panel_of_micros("processes", "µs a write", &points));
+        assert_eq!(micros[0], ("the store", vec![(1.0, 2_000.0), (2.0, 4_000.0)]));
+        assert_eq!(micros[1], ("plain SQLite", vec![(1.0, 1_000.0), (2.0, 1_000.0)]));
+        assert_eq!(grow("processes", "", |rate| rate, &[1], |_| Err("it fails".into())), Err("it fails".into()));
+    }
+
+    #[test]
+    fn a_median_has_nothing_of_what_it_begins_with() {
+        let pause = |time: u64| {
+            std::thread::sleep(Duration::from_millis(time));
+            Ok::<_, ()>(())
+        };
+        let took = millis(|| pause(100), |()| pause(2)).expect("nothing fails");
+        assert!((2.0..100.0).contains(&took), "{took}");
+        assert_eq!(millis(|| Ok(()), |()| Err("it fails")), Err("it fails"));
+    }
+}
