@@ -108,7 +108,7 @@ fn room_for_one() -> Named {
 #[cfg(test)]
 mod tests {
     use super::*;
-    use model::layout::{Client, Head, Ledger, client_index, ledger_index};
+    use model::layout::{Client, Head, Ledger, client_index, ledger_index, place_index};
     use model::{Answer, words};
 
     /// What is wrong with logs that should be forty: which are alike, malformed or refuse their step, and which states no log has.
@@ -174,7 +174,21 @@ mod tests {
         assert_eq!(wrong(&all()), Vec::<String>::new());
     }
 
-    // What the test above looks for can be found.
+    #[test]
+    fn the_rarer_ones_are_as_they_are_called() {
+        let count = |log: Named, state: &str| states(&log).iter().filter(|met| met.ends_with(state)).count();
+        for stage in 0..7 {
+            assert!(count(every_stage(), &format!(" at stage {stage}")) > 0, "{stage}");
+        }
+        assert_eq!((count(by_turns(), " fenced and closed"), count(by_turns(), ", 2040 entries")), (254, 1));
+        assert_eq!((count(no_entries(), " closed"), count(no_entries(), ", 0 entries")), (254, 1));
+        assert_eq!((count(unlisted(), " open"), unlisted().buffers.state[place_index(1)]), (1, 0));
+        assert_eq!((count(gap(), " open"), gap().buffers.state[place_index(1)] >> 56), (2, 2));
+        assert_eq!((count(closed_last(), " closed"), count(closed_last(), " open")), (2, 0));
+        assert_eq!(count(room_for_one(), ", 4095 entries"), 1);
+    }
+
+    // What the first test looks for can be found.
     #[test]
     fn finds_wrong_logs() {
         let with = |change: fn(&mut Vec<Named>)| {
