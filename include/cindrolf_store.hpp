@@ -1,9 +1,8 @@
 // A log that controllers share, in a file or on a server, for C++17: cindrolf_store.h with handles that close themselves, enums, views and
-// exceptions.
-// Link as for cindrolf_store.h (pkg-config cindrolf-store); this header is all there is to it.
+// exceptions. Link as for cindrolf_store.h (pkg-config cindrolf-store); there is only this header.
 //
-// A call that is not done throws cindrolf::error, or one that is derived of it: cindrolf::refused where the log refused, and cindrolf::unknown
-// where nobody knows whether the step is stored. Threads are as there: one call at a time uses a store, so open the log once for each thread.
+// A call that fails throws cindrolf::error, or an error derived from it: cindrolf::refused if the log refused, and cindrolf::unknown if it
+// is not known whether the step is stored. One call at a time may use a store, so open the log once for each thread.
 #ifndef CINDROLF_STORE_HPP
 #define CINDROLF_STORE_HPP
 
@@ -58,7 +57,7 @@ enum class status : int {
     internal = CINDROLF_STORE_INTERNAL,
 };
 
-// Values in a row that somebody else keeps, as C++20's std::span: made of a vector, an array, or a pointer and a length.
+// A view of values in a row, like C++20's std::span: made from a vector, an array, or a pointer and a length.
 template <class T> class view {
 public:
     constexpr view() = default;
@@ -80,7 +79,7 @@ private:
 
 using words = view<const std::uint64_t>;
 
-// What a step answers that was not refused.
+// The answer of a step that was not refused.
 class answer {
 public:
     enum class kind { done, was_closed, behind, stored };
@@ -101,12 +100,12 @@ private:
     std::uint64_t number_;
 };
 
-// A call that was not done.
+// A call that failed.
 class error : public std::runtime_error {
 public:
     error(cindrolf::status code, const std::string &why) : std::runtime_error(why), code_(code) {}
     cindrolf::status code() const noexcept { return code_; }
-    // Whether the step may be stored all the same. Where not, it is not, and never will be.
+    // Whether the step may be stored all the same. If false, it is not stored, and never will be.
     bool may_be_stored() const noexcept {
         return code_ == status::unknown || code_ == status::unwitnessed || code_ == status::internal;
     }
@@ -119,14 +118,14 @@ private:
 class refused : public error {
 public:
     refused(std::uint64_t number, const std::string &sentence) : error(status::refused, sentence), number_(number) {}
-    // The number of the refusal, as CINDROLF_REFUSAL_LEDGER_FENCED.
+    // The number of the refusal, such as CINDROLF_REFUSAL_LEDGER_FENCED.
     std::uint64_t number() const noexcept { return number_; }
 
 private:
     std::uint64_t number_;
 };
 
-// It is not known whether the step is stored: settle the request, or read the log where it is 0, before you try again.
+// It is not known whether the step is stored: settle the request, or read the log if the request is 0, before you try again.
 class unknown : public error {
 public:
     unknown(std::uint64_t request, const std::string &why) : error(status::unknown, why), request_(request) {}
@@ -143,7 +142,7 @@ inline std::string sentence(step taken, std::uint64_t client, std::uint64_t refu
     return said.answer == CINDROLF_DONE ? std::string(text, said.length) : "refusal " + std::to_string(refusal);
 }
 
-// A log as it was at one moment. Its words can be passed to every reading function of cindrolf.h.
+// A log as it was at one moment. You can pass its words to every reading function of cindrolf.h.
 class snapshot {
 public:
     words state() const { return state_; }
@@ -156,7 +155,7 @@ public:
     template <class F, class... A> auto read(F function, A... arguments) const {
         return function(state_.data(), state_.size(), entries_.data(), entries().size(), arguments...);
     }
-    // The step that a client should take next; none where another client is named and this one does not lead.
+    // The step that a client should take next; none if another client is named and this one does not lead.
     std::optional<step> advise(std::uint64_t client) const {
         const auto advised = read(cindrolf_advise, client);
         if (advised == CINDROLF_NO_STEP)
@@ -165,7 +164,7 @@ public:
             throw refused(advised - CINDROLF_REFUSED, "refusal " + std::to_string(advised - CINDROLF_REFUSED) + " of the adviser");
         return static_cast<step>(advised);
     }
-    // The words of all entries in the order of the chain: cindrolf_word_client and cindrolf_word_value take them apart.
+    // The words of all entries in the order of the chain: cindrolf_word_client and cindrolf_word_value give their parts.
     std::vector<std::uint64_t> chain() const {
         std::vector<std::uint64_t> output(entries().size());
         output.resize(read(cindrolf_read_chain, output.data(), output.size()).count);
@@ -181,17 +180,17 @@ private:
     cindrolf_store_taken taken_{};
 };
 
-// A text for C, in which a zero would be its end.
+// A text for C. A zero in it would be its end.
 inline const char *text(const std::string &given) {
     if (given.find('\0') != std::string::npos)
         throw error(status::bad_argument, "a text has a zero byte");
     return given.c_str();
 }
 
-// A step of a batch, as struct cindrolf_store_asked has it.
+// A step of a batch, as in struct cindrolf_store_asked.
 using asked = cindrolf_store_asked;
 
-// An open log, which is closed with it.
+// An open log. The destructor closes it.
 class store {
 public:
     // Opens a log: a file, or postgresql://HOST/DATABASE/LOG on a server.
@@ -211,9 +210,9 @@ public:
     }
     store(const store &) = delete;
     store &operator=(const store &) = delete;
-    // No step rests on closing: what was answered is stored.
+    // No step depends on closing: what was answered is stored.
     ~store() { cindrolf_store_close(handle_, nullptr, 0); }
-    // Closes the log, and throws where that failed.
+    // Closes the log, and throws if that failed.
     void close() {
         char why[CINDROLF_STORE_MESSAGE_BYTES];
         const int code = cindrolf_store_close(handle_, why, sizeof why);
@@ -233,7 +232,7 @@ public:
         const int code = cindrolf_store_write_scores(handle_, client, scores.data(), scores.size(), &number);
         return answered(code, number, step::write, client);
     }
-    // Takes steps as one request, and gives the number of each answer, CINDROLF_REFUSED + n for refusal n, which is not thrown.
+    // Takes steps as one request, and returns the number of each answer: CINDROLF_REFUSED + n for refusal n, which is not thrown.
     [[nodiscard]] std::vector<std::uint64_t> take_all(view<const asked> steps) {
         std::vector<std::uint64_t> answers(steps.size());
         const int code = cindrolf_store_take_all(handle_, steps.data(), steps.size(), answers.data(), answers.size());
@@ -241,7 +240,7 @@ public:
             check(code);
         return answers;
     }
-    // Takes the steps of a plan up to the budget as one request, and gives how many it took.
+    // Takes the steps of a plan up to the budget as one request, and returns how many it took.
     std::uint64_t run_plan(words plan, std::uint64_t budget = UINT64_MAX) {
         std::uint64_t taken = 0;
         check(cindrolf_store_run_plan(handle_, plan.data(), plan.size(), budget, &taken));
@@ -289,7 +288,7 @@ public:
         return row;
     }
     void has_row(const std::string &row) { check(cindrolf_store_has_row(handle_, text(row))); }
-    // Sees that the whole log holds together; gives how many rows it has, and how many have a wrong answer stored.
+    // Checks the whole log; returns how many rows it has, and how many have a wrong stored answer.
     std::pair<std::uint64_t, std::uint64_t> check_all() {
         std::pair<std::uint64_t, std::uint64_t> counted{};
         check(cindrolf_store_check(handle_, &counted.first, &counted.second));
@@ -347,7 +346,7 @@ private:
     cindrolf_store *handle_ = nullptr;
 };
 
-// Has no call of this process wait longer than a second from now on: it is to end. A handler of signals may call it.
+// From now on no call of this process waits longer than a second: use it before the process ends. A signal handler may call it.
 inline void end_waiting() { cindrolf_store_end_waiting(); }
 
 } // namespace cindrolf
