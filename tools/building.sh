@@ -1,11 +1,11 @@
 # shellcheck shell=sh disable=SC2154
-# How the commands build: what is stale, how it is proved and built, and where it goes. tools/common.sh has it.
+# How the commands build: what is stale, how it is proved and built, and where it goes. tools/common.sh includes this file.
 #
-# Whether something is stale is found in two looks. The first compares times: no source, no folder of sources and no built file
-# has a status-change time (ctime) later than the last whole look, and the kit has the same version. Nothing can set that time
-# back, so that `cp -p`, `git checkout` and `touch -d` are seen, and a file that is added, renamed or removed changes its folder.
-# Where something is newer, the second look decides: the sums of the sources and of the built files. Where they are those of the
-# last build, nothing is built, and the time of this look is kept. A clock that is behind the last look counts as newer, too.
+# Two looks find whether something is stale. The first compares times: no source, no folder of sources and no built file has a
+# status-change time (ctime) later than the last whole look, and the kit has the same version. Nothing can set that time back, so
+# `cp -p`, `git checkout` and `touch -d` are noticed, and a file that is added, renamed or removed changes its folder. If something
+# is newer, the second look decides: the sums of the sources and of the built files. If they are those of the last build, nothing
+# is built, and the time of this look is kept. A clock that shows a time before the last look also counts as newer.
 #
 # target/made/ has for each product NAME.sum, what it was made from and its sum; NAME.seen, whose time is that of the last whole
 # look; and NAME.log, what the build said.
@@ -22,7 +22,7 @@ sum() { # FILE..
     (cd "$root" && find "$@" -type f ! -path '*/must-fail/*' -exec sha256sum {} + 2>/dev/null | sort | sha256sum)
 }
 
-# What a build rests on: the sources and the kit. Where there is no kit nothing can be built, so what is there stays good.
+# What a build depends on: the sources and the kit. Without the kit nothing can be built, so what is there stays good.
 sources() {
     # shellcheck disable=SC2086
     sum $inputs

@@ -20,7 +20,7 @@ fail() { # STATUS MESSAGE
     exit "$1"
 }
 
-# Prints the usage where it is asked for, and refuses any other option. Further arguments are the command's.
+# Prints the usage if it is asked for, and refuses any other option. Further arguments are the command's.
 options() { # [ARGUMENT..]
     case ${1-} in
     -h | --help)
@@ -141,7 +141,7 @@ lock_folder() { # FOLDER
         fi
         if [ -z "$told" ]; then
             waiting_for "$holder"
-            say "should that be gone, remove $1"
+            say "if that process is gone, remove $1"
             told=yes
         fi
         sleep 1

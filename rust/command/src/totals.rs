@@ -49,7 +49,7 @@ pub fn print(files: &[PathBuf], as_json: bool) -> Result<ExitCode, Failure> {
 fn several(files: &[PathBuf], as_json: bool) -> Result<ExitCode, Failure> {
     for file in files {
         if let Given::Session(_) = given::look(file)? {
-            return Err(Failure::Arguments(format!("{} is no log: of several FILEs each is one", file.display())));
+            return Err(Failure::Arguments(format!("{} is no log: with several FILEs each has to be one", file.display())));
         }
     }
     let logs = files.iter().map(|log| sums(log)).collect::<Result<Vec<_>, _>>()?;

@@ -40,7 +40,7 @@ fn by_hand() {
     let said = folder.failure(2, &["total", "1.log", "2.log", "link.log"]);
     assert!(said.starts_with("cindrolf: link.log is named twice, and would count twice\nusage: "), "{said}");
     fs::write(folder.path("a.session"), "1\nB 0\n").unwrap();
-    let said = "cindrolf: a.session is no log: of several FILEs each is one\n";
+    let said = "cindrolf: a.session is no log: with several FILEs each has to be one\n";
     assert_eq!(folder.failure(2, &["total", "1.log", "a.session"]), said);
     assert_eq!(folder.failure(2, &["total", "1.log", "nowhere"]), "cindrolf: there is no file nowhere\n");
     assert_eq!(
