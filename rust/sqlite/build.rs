@@ -1,4 +1,4 @@
-//! Links the system's SQLite, and says what to install where there is none.
+//! Links the system's SQLite, and says what to install if there is none.
 
 use std::io::Write;
 use std::process::{Command, Stdio};

@@ -1,4 +1,4 @@
-//! Gives the shared library its name of this interface, by which programs ask for it.
+//! Gives the shared library the soname of this interface.
 
 const HEADER: &str = "../../include/cindrolf_store.h";
 

@@ -1,4 +1,4 @@
-//! Has SQLite call the functions of src/calls.rs and src/kernel.rs in place of the C library's.
+//! Makes SQLite call the functions of src/calls.rs and src/kernel.rs in place of the C library's.
 
 fn main() {
     println!("cargo::rerun-if-changed=build.rs");

@@ -1,4 +1,4 @@
-//! A headless Chromium, driven by the DevTools protocol over its pipe: messages of JSON, each ended by byte 0.
+//! A headless Chromium, driven by the DevTools protocol over its pipe: JSON messages, each ended by byte 0.
 
 use crate::text::{decoded, quoted};
 use std::io::{BufRead, BufReader, Write};

@@ -1,4 +1,5 @@
-//! Opens the pages of sessions and logs in headless Chromium, steps through them, and compares what is shown. `tests/trace` runs it.
+//! Opens the pages of sessions and logs in headless Chromium, steps through them, and compares what they show.
+//! `tests/trace` runs it.
 
 mod chromium;
 mod moments;

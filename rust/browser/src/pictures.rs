@@ -1,4 +1,4 @@
-//! The static picture of a session: that it is well formed and has every step, refusal and entry.
+//! The static picture of a session: is it well formed, and has it every step, refusal and entry?
 
 use crate::chromium::{Chromium, Outcome};
 use crate::moments::Moments;

@@ -1,4 +1,4 @@
-//! What a page shows, taken from its elements, and held against what it must show.
+//! What a page shows, read from its elements and compared with what it must show.
 
 use crate::chromium::{Chromium, Outcome};
 use crate::moments::{Moment, Moments};

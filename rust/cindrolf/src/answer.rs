@@ -1,4 +1,4 @@
-//! What each operation answers, and the numbers by which answers cross the boundary.
+//! What each operation answers, and the numbers of answers at the C boundary.
 
 use crate::{Error, Kind, Refusal};
 use std::fmt;

@@ -11,8 +11,8 @@
 //! # Ok::<(), Error>(())
 //! ```
 //!
-//! A step whose name ends in `_with` takes the rights of the clients too, words of any length and content, and is
-//! refused where its client lacks the right to it. The other steps ask for none.
+//! A step whose name ends in `_with` also takes the rights of the clients, words of any length and content, and is
+//! refused if its client lacks the right to it. The other steps check none.
 //!
 //! ```
 //! use cindrolf::{Error, Refusal, Right, Rights, calls};
@@ -27,7 +27,7 @@
 //! # Ok::<(), Error>(())
 //! ```
 //!
-//! A plan is step words, of any length and content. A run of it refuses nothing itself, so it has no error.
+//! A plan is step words, of any length and content. A run itself refuses nothing, so it has no error.
 //!
 //! ```
 //! use cindrolf::{Error, Forecast, Rights, calls};
@@ -44,10 +44,10 @@
 //! # Ok::<(), Error>(())
 //! ```
 //!
-//! The unsafe blocks below are sound for one reason. The library reads and writes only the words, bytes and scores that it is
-//! lent by pointer and length, keeps no pointer, and answers every content. The slices give it pointers that are aligned, not
-//! null and valid for their lengths. A `&mut` slice is lent to nobody else meanwhile, so what the library changes
-//! overlaps nothing. Each block's comment adds what is special to it.
+//! The unsafe blocks below are sound for one reason. The library reads and writes only the words, bytes and scores that
+//! we pass by pointer and length, keeps no pointer, and accepts every content. The slices give it pointers that are
+//! aligned, not null and valid for their lengths. Nothing else has access to a `&mut` slice during the call, so what
+//! the library changes overlaps nothing. Each block's comment adds what is special to it.
 
 pub use crate::storage::{rearrange, restore};
 use crate::{

@@ -1,4 +1,4 @@
-//! Refusals, and what else may keep an operation from its answer.
+//! Refusals, and the other errors of an operation.
 
 use crate::{Kind, TEXT_BYTES, VERSION, calls};
 use std::fmt;

@@ -1,12 +1,12 @@
-//! The chained run log for controllers in Rust: safe functions over a library that is proved.
+//! The chained run log for controllers in Rust: safe functions over the proved library.
 //!
-//! A log lives in two buffers of 64-bit words, [`STATE_WORDS`] of state and [`ENTRY_WORDS`] of entries. A [`Log`] owns
-//! them; a [`LogMut`] or a [`LogRef`] borrows them from wherever they are kept; the functions of [`calls`] take plain
-//! slices. All of them answer buffers of any length and content, and any number. A [`Refusal`] changes nothing.
-//! The entry buffer of a small cartridge has [`SMALL_ENTRY_WORDS`]: a [`Capacity`] says which of the two.
+//! A log is two buffers of 64-bit words, [`STATE_WORDS`] of state and [`ENTRY_WORDS`] of entries. A [`Log`] owns them;
+//! a [`LogMut`] or a [`LogRef`] borrows them; the functions of [`calls`] take plain slices. All of them accept buffers
+//! of any length and content, and any number. A [`Refusal`] changes nothing. The entry buffer of a small cartridge has
+//! [`SMALL_ENTRY_WORDS`]: a [`Capacity`] says which of the two.
 //!
 //! Persist both buffers together after every step that isn't refused. A [`View`] says what a log holds: the named
-//! leader, where each client stands, the list and its ledgers.
+//! leader, the stage of each client, the list and its ledgers.
 //!
 //! Two controllers, of which the second takes over the lead:
 //!
@@ -40,7 +40,7 @@
 //! # Ok::<(), Error>(())
 //! ```
 //!
-//! A controller with a read to store takes the steps that it is advised, and persists the log after each:
+//! A controller with a read to store takes the advised steps, and persists the log after each:
 //!
 //! ```
 //! use cindrolf::{Answer, EntryNumber, Error, Log, Position, Refusal, Step};
@@ -82,8 +82,8 @@
 //! # Ok::<(), Error>(())
 //! ```
 //!
-//! The sum of the run beside its parts, in parts of 10^-12: ledger after ledger along the list, then the whole, exact and
-//! rounded once.
+//! The sum of the run and of its ledgers, in parts of 10^-12: ledger after ledger along the list, then the whole, exact
+//! and rounded once.
 //!
 //! ```
 //! use cindrolf::{Error, LedgerNumber, LedgerSum, ListPlace, Log, Refusal, RunTotal};
@@ -143,7 +143,7 @@
 //! # Ok::<(), Error>(())
 //! ```
 //!
-//! On a small cartridge a log has 512 entry words, and takes 512 entries. All else is as on the other:
+//! On a small cartridge a log has 512 entry words, and takes 512 entries. Everything else is the same:
 //!
 //! ```
 //! use cindrolf::{Capacity, Error, Log, Refusal};
@@ -164,8 +164,8 @@
 //! # Ok::<(), Error>(())
 //! ```
 //!
-//! Steps may be taken under [`Rights`], which say for each client which steps it may take. They are lent with each step
-//! and kept by the caller; without any, each client may take every step.
+//! Steps may be taken under [`Rights`], which say for each client which steps it may take. The caller keeps them and
+//! passes them with each step; without rights, each client may take every step.
 //!
 //! ```
 //! use cindrolf::{Error, Log, Refusal, Right, Rights};

@@ -1,4 +1,4 @@
-//! Steps as words, which a plan is made of, and what a run of it adds.
+//! Steps as words, the plans made of them, and what a run adds.
 
 use crate::{CLIENT_NUMBER_LIMIT, Error, Kind, Refusal, Step, VALUE_LIMIT, value_of};
 

@@ -1,5 +1,5 @@
 //! The functions of the archive, as include/cindrolf.h declares them. Nothing checks that these declarations match it.
-//! They are public for the comparison alone, which looks at what the safe functions don't hand on.
+//! They are public only for the comparison, which looks at what the safe functions do not return.
 
 #[repr(C)]
 pub struct LedgerPart {

@@ -1,4 +1,4 @@
-//! The rights of the clients, which are lent with a step.
+//! The rights of the clients, which a caller passes with a step.
 
 use crate::{CLIENT_LIMIT, Error, Kind, RIGHTS_WORDS, Refusal};
 

@@ -1,7 +1,7 @@
-//! Words rearranged into bytes for storage, and restored. No log is looked at.
+//! Words rearranged into bytes for storage, and restored. They need not be a log.
 //!
-//! The unsafe blocks are sound as those of [`calls`](crate::calls) are: the library reads and writes only what it is lent by
-//! pointer and length, and answers every content and length.
+//! The unsafe blocks are sound for the same reason as those of [`calls`](crate::calls): the library reads and writes
+//! only what we pass by pointer and length, and accepts every content and length.
 
 use crate::{Error, answer, raw};
 

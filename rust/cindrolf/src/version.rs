@@ -1,4 +1,4 @@
-//! Whether the archive is of the version that this crate is written for.
+//! Whether the archive has the version that this crate needs.
 
 use crate::{Error, raw};
 

@@ -1,4 +1,5 @@
-//! Every sentence, and the one table of reasons: what the crate prints, and what the header and the reference say of each refusal.
+//! Every sentence, and the one table of reasons: what the crate prints, and what the header and the reference say about
+//! each refusal.
 
 use cindrolf::{Error, Kind, Refusal, Said, TEXT_BYTES, calls};
 use std::collections::HashSet;

@@ -1,6 +1,6 @@
-//! Steps of which only some words reached a disk: logs that are well formed, and keep less than was answered.
+//! Steps of which only some words reached a disk: the logs are well formed, and have less than was answered.
 //!
-//! docs/INTEGRATION.md names these cases to those who keep the buffers themselves.
+//! docs/INTEGRATION.md lists these cases for callers that store the buffers themselves.
 
 use cindrolf::{EntryNumber, Error, Log, Refusal, Step};
 

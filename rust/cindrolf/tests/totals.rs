@@ -1,4 +1,4 @@
-//! The list and the totals: of a handover, of words that no fresh log leads to, and of no log.
+//! The list and the totals: of a handover, of words that no history produces, and of no log.
 
 use cindrolf::{
     ENTRY_WORDS, Error, LedgerNumber, LedgerSum, ListPlace, Log, LogMut, LogRef, Refusal, RunTotal, STATE_WORDS, Step,

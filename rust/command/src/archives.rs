@@ -1,4 +1,4 @@
-//! Runs written to archives, and logs made of them.
+//! Runs written to archives, and logs restored from them.
 
 use crate::failure::Failure;
 use crate::signals::Signals;

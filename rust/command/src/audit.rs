@@ -1,4 +1,4 @@
-//! The audit of a log on a server, which goes on as rows come.
+//! The audit of a log on a server, which continues with new rows.
 
 use crate::failure::Failure;
 use crate::signals::Signals;

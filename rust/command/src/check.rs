@@ -1,4 +1,4 @@
-//! The check of a file: that it holds together, its last row, and of which files the log is made now.
+//! The check of a file: whether it is consistent, its last row, and which files the log consists of now.
 
 use crate::failure::Failure;
 use crate::given;

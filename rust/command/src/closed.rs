@@ -1,6 +1,6 @@
 //! Whether standard input and output were open when the program was started.
 //!
-//! Rust opens /dev/null in place of those that are closed, before `main`. So they are looked at before that.
+//! Rust opens /dev/null in place of closed ones, before `main`. So we look before that.
 
 use std::ffi::c_int;
 use std::sync::atomic::{AtomicBool, Ordering};

@@ -1,4 +1,4 @@
-//! Fields with commas between them, as RFC 4180 has them, but for the line ends, which are byte 10 alone.
+//! Fields with commas between them, as in RFC 4180, except that a line ends with byte 10 alone.
 
 /// A line. A field that has a comma, a quote or a line end stands in quotes.
 pub fn line<T: AsRef<str>>(fields: &[T]) -> String {

@@ -1,4 +1,4 @@
-//! Why a command was not done: what is said of it, and the exit status.
+//! Why a command failed: its message and the exit status.
 
 use crate::given;
 use std::io;

@@ -1,4 +1,4 @@
-//! A FILE that has a session or is a log: opened, and told apart by its content.
+//! A FILE that is a session or a log: opened, and recognised by its content.
 
 use crate::failure::Failure;
 use std::fs::{self, File};

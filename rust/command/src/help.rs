@@ -1,4 +1,4 @@
-//! The subcommands and their help: one text a subcommand, of which the manual and the completion are made too.
+//! The subcommands and their help: one text a subcommand, from which the manual and the completion are also made.
 
 /// The help of the command as a whole.
 pub const OVERVIEW: &str = include_str!("../help/cindrolf.txt");

@@ -1,4 +1,4 @@
-//! The rows of a log, one a line: each step that was asked for, with its reply.
+//! The rows of a log, one a line: each step with its reply.
 
 use crate::asked::{asked, letters};
 use crate::csv::{line, or_empty};

@@ -1,4 +1,4 @@
-//! Bytes that people gave as a name, on one line.
+//! Names that people gave, as bytes, on one line.
 
 /// As they are, or with escapes where there is anything but text.
 pub fn printable(bytes: &[u8]) -> String {

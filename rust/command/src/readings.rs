@@ -1,4 +1,4 @@
-//! What is read of a log at once: the chain and the advice.
+//! Single readings of a log: the chain and the advice.
 
 use crate::csv::{line, or_empty};
 use crate::json::Json;

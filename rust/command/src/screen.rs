@@ -1,4 +1,4 @@
-//! A terminal that shows one frame after the other, and is left as it was.
+//! A terminal that shows one frame after the other, and is restored at the end.
 
 use std::ffi::{c_int, c_ulong};
 use std::io::{self, Write};

@@ -1,4 +1,4 @@
-//! A log for a person: who is named, who leads and at what stage, the ledgers with their counts, the marks.
+//! A log for people: which client is named, which lead and at what stage, the ledgers with their counts, the marks.
 
 use crate::failure::Failure;
 use crate::json::Json;

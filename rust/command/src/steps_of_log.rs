@@ -1,4 +1,4 @@
-//! The rows of a log as frames: each taken once more by the library, under the rights as they were at it.
+//! The rows of a log as frames: each taken once more by the library, under the rights at that row.
 
 use crate::asked::{asked, letters};
 use crate::failure::Failure;

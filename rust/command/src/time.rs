@@ -1,4 +1,4 @@
-//! When a row was stored, as the views of a log have it.
+//! When a row was stored, as in the views of a log.
 
 const SECOND: i64 = 1_000_000;
 const DAY: i64 = 24 * 60 * 60 * SECOND;

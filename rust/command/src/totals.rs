@@ -1,8 +1,8 @@
-//! The run total of one log, or of a run that goes on over several.
+//! The run total of one log, or of a run over several.
 //!
-//! Each log's own total is the library's, and proved. The sum over several is made here, in whole parts of 10^-12 and 128
-//! bits, and rounded once. The total of a log is below 2^64 parts, so that no number of logs that a command line can name
-//! leaves them.
+//! The library computes each log's total, and it is proved. This file adds up several, in whole parts of 10^-12 and 128
+//! bits, and rounded once. The total of a log is below 2^64 parts, so the sum of all logs that a command line can name
+//! fits.
 
 use crate::failure::Failure;
 use crate::given::{self, Given};
@@ -49,7 +49,7 @@ pub fn print(files: &[PathBuf], as_json: bool) -> Result<ExitCode, Failure> {
 fn several(files: &[PathBuf], as_json: bool) -> Result<ExitCode, Failure> {
     for file in files {
         if let Given::Session(_) = given::look(file)? {
-            return Err(Failure::Arguments(format!("{} is no log: with several FILEs each has to be one", file.display())));
+            return Err(Failure::Arguments(format!("{} is no log: several FILEs must all be logs", file.display())));
         }
     }
     let logs = files.iter().map(|log| sums(log)).collect::<Result<Vec<_>, _>>()?;

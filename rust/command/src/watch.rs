@@ -1,4 +1,4 @@
-//! A log that is watched: its tables on a terminal, drawn again when it changes, or else a line for each row that comes.
+//! `watch`: the tables of a log on a terminal, drawn again when it changes, or else a line for each new row.
 
 use crate::asked::asked;
 use crate::failure::Failure;

@@ -1,4 +1,4 @@
-//! The first stretch of a run whose expected errors come to more than a limit.
+//! The first stretch of a run whose expected errors add up to more than a limit.
 
 use crate::json::Json;
 use cindrolf::{LedgerNumber, ReadingPlace, client_of, value_of};

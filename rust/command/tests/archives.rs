@@ -1,4 +1,4 @@
-//! A run in an archive: through files, through pipes, and where it goes wrong.
+//! A run in an archive: through files, through pipes, and with errors.
 
 mod support;
 

@@ -1,4 +1,4 @@
-//! FASTQ that is none, and packed files that are cut or damaged: what is said, and that nothing of them is stored.
+//! Wrong FASTQ, and packed files that are cut or damaged: the message, and that nothing of them is stored.
 
 mod support;
 

@@ -1,4 +1,4 @@
-//! Copies of a log: their modes and names, and which file is blamed where one is not made.
+//! Copies of a log: their modes and names, and which file is blamed if a copy fails.
 
 mod support;
 

@@ -1,4 +1,4 @@
-//! The page "A day in the laboratory": every command of it is run, and what it prints compared.
+//! The page "A day in the laboratory": runs every command of it, and compares what it prints.
 
 mod support;
 

@@ -1,4 +1,4 @@
-//! The documents: each link leads somewhere, each file that is named is there, and each command has its options.
+//! The documents: each link leads somewhere, each named file exists, and each command has the named options.
 
 use expected::files::root;
 use std::collections::BTreeSet;

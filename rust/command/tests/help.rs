@@ -1,4 +1,4 @@
-//! The help of each subcommand: what is printed, that its example runs, and that the overview has them all.
+//! The help of each subcommand: its text, that its example runs, and that the overview lists every subcommand.
 
 mod support;
 

@@ -1,4 +1,4 @@
-//! A lock that another process holds: how long a step waits for it, and what it says of the holder.
+//! A lock that another process holds: how long a step waits for it, and what it says about the holder.
 
 mod support;
 

@@ -1,5 +1,5 @@
 //! A log on a server of another machine, by TLS: three machines that are network namespaces, each with a cable to the
-//! server's. They go with the processes of the test, and leave nothing.
+//! server's. They end with the processes of the test, and leave nothing.
 
 mod support;
 

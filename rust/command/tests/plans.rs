@@ -1,4 +1,4 @@
-//! Plans from files: what a run adds, beside its forecast and beside the same steps taken singly.
+//! Plans from files: what a run adds, compared with its forecast and with the same steps taken one by one.
 
 mod support;
 

@@ -1,4 +1,4 @@
-//! How the proved programs are started, on stand-ins for them that print what they are given.
+//! How the proved programs are started, with stand-ins that print their input.
 
 mod support;
 

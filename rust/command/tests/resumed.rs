@@ -1,4 +1,4 @@
-//! Writing that was interrupted, and goes on with --resume: no read is lost, and none is there twice.
+//! Interrupted writing that continues with --resume: no read is lost, and none is stored twice.
 
 mod support;
 

@@ -1,4 +1,4 @@
-//! What is stored with each row, and what is made of it: batches, processes, witnesses, upgrades, wrong answers.
+//! What is stored with each row, and its uses: batches, processes, witnesses, upgrades, wrong answers.
 
 mod support;
 

@@ -1,4 +1,4 @@
-//! What scripts read: JSON and CSV, each read by Python and compared with what it says there.
+//! What scripts read: JSON and CSV, each read by Python and compared with what it should say.
 
 mod support;
 

@@ -1,4 +1,4 @@
-//! A log on a server, by the same subcommands as one in a file.
+//! A log on a server, with the same subcommands as one in a file.
 
 mod support;
 

@@ -1,4 +1,4 @@
-//! Sessions taken on a log in a file, beside what the model prints for them.
+//! Sessions taken on a log in a file, compared with what the model prints for them.
 
 mod support;
 

@@ -1,4 +1,5 @@
-//! Rows that are lost from the end of a log, which holds together without them: who kept the last row finds it.
+//! Rows that are lost from the end of a log, which is consistent without them: a caller that kept the last row finds
+//! it.
 
 mod support;
 

@@ -1,4 +1,4 @@
-//! The total of a run that goes on over several logs: by hand, and beside sums of all values.
+//! The total of a run over several logs: by hand, and compared with sums of all values.
 
 mod support;
 
@@ -40,7 +40,7 @@ fn by_hand() {
     let said = folder.failure(2, &["total", "1.log", "2.log", "link.log"]);
     assert!(said.starts_with("cindrolf: link.log is named twice, and would count twice\nusage: "), "{said}");
     fs::write(folder.path("a.session"), "1\nB 0\n").unwrap();
-    let said = "cindrolf: a.session is no log: with several FILEs each has to be one\n";
+    let said = "cindrolf: a.session is no log: several FILEs must all be logs\n";
     assert_eq!(folder.failure(2, &["total", "1.log", "a.session"]), said);
     assert_eq!(folder.failure(2, &["total", "1.log", "nowhere"]), "cindrolf: there is no file nowhere\n");
     assert_eq!(

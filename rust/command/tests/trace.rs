@@ -1,4 +1,4 @@
-//! Pages and pictures of sessions: what the command says, its statuses, and a page that is whole or not there.
+//! Pages and pictures of sessions: the messages, the statuses, and a page that is whole or missing.
 
 use std::fs::{self, File};
 use std::path::{Path, PathBuf};

@@ -1,4 +1,4 @@
-//! Pages of logs: each row as the library takes it in its place, with its time, and parts of a long log.
+//! Pages of logs: each row as the library takes it at its place, with its time, and parts of a long log.
 
 mod support;
 

@@ -1,4 +1,4 @@
-//! Expected errors of reads beside those of vsearch, a program for reads that others have written.
+//! Expected errors of reads, compared with those of vsearch, a program by others.
 
 mod support;
 

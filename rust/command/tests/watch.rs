@@ -1,4 +1,4 @@
-//! A log that is watched, on a terminal and without one, to its end by a key, a signal or a removal.
+//! `watch`, on a terminal and without one, ended by a key, a signal or a removal.
 
 mod support;
 #[path = "support/terminal.rs"]

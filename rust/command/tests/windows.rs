@@ -1,4 +1,4 @@
-//! The first bad stretch of a run, worked out by hand, and beside sums over every stretch.
+//! The first bad stretch of a run, worked out by hand, and compared with sums over every stretch.
 
 mod support;
 

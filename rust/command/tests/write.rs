@@ -1,4 +1,4 @@
-//! Reads that are written: from FASTQ, lists of scores and values; packed, through pipes, and over several logs.
+//! `write`: reads from FASTQ, lists of scores and values; packed, through pipes, and over several logs.
 
 mod support;
 

@@ -1,5 +1,5 @@
-//! A block of SHA-256 by the instructions that a processor may have for it: a third of the time, and a row of a log is one
-//! or two blocks.
+//! A block of SHA-256 with the instructions that a processor may have for it: a third of the time, and a row of a log
+//! is one or two blocks.
 
 use super::CONSTANTS;
 use std::arch::x86_64::{

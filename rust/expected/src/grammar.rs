@@ -1,7 +1,7 @@
-//! The input of a session, read by writing: a line is good where it is exactly what the reference writes for a step.
+//! The input of a session, read by writing: a line is good if it is exactly what the reference writes for a step.
 //!
-//! So what takes a line apart need not be trusted to refuse. It only guesses a step, and a wrong guess is written as
-//! another line. `rust/session` takes its lines apart by fields and refuses what is no field; neither knows the other.
+//! So the parser need not be trusted to refuse. It only guesses a step, and a wrong guess is written as another line.
+//! `rust/session` splits its lines into fields and refuses what is no field; neither uses the other.
 
 use model::Step;
 

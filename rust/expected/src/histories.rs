@@ -1,7 +1,7 @@
 //! What the program `histories` must print: how often each step gave each answer, over pseudo-random histories.
 //!
 //! Three numbers are drawn for each step, for its client, its kind and its value, by Marsaglia's xorshift64 from one
-//! seed on. Which bits of them decide what is written at each function below.
+//! seed. Each function below says which bits decide.
 
 use crate::log::Log;
 use model::source::{Source, Status};

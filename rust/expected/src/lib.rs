@@ -1,4 +1,4 @@
-//! The outputs that the repository's programs must give, worked out by the model, which knows nothing of their code.
+//! The outputs that the repository's programs must give, computed by the model, which uses none of their code.
 
 pub mod files;
 pub mod grammar;

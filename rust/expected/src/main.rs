@@ -1,4 +1,4 @@
-//! Holds the kept outputs against the model, or writes them. See `--help`.
+//! Compares the kept outputs with the model, or writes them. See `--help`.
 
 use expected::{files, session, total};
 use std::fs;

@@ -1,4 +1,4 @@
-//! The model's transcripts against outputs that were worked out by hand from the reference.
+//! Compares the model's transcripts with outputs that were worked out by hand from the reference.
 
 use expected::files::{input, root};
 use expected::session::transcript;

@@ -1,4 +1,4 @@
-//! The inputs as a whole: every answer that a session can meet is met, and what LedgerChaining keeps is kept throughout.
+//! The inputs as a whole: every answer that a session can give occurs, and LedgerChaining's invariants hold throughout.
 
 use expected::files::{input, input_names, root};
 use expected::grammar::{Session, step};

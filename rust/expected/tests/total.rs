@@ -1,4 +1,4 @@
-//! The model's run totals against outputs that were worked out by hand, and against the transcript's chain.
+//! Compares the model's run totals with outputs that were worked out by hand, and with the transcript's chain.
 
 use expected::files::{input, input_names, root};
 use expected::session::transcript;

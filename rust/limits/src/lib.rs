@@ -1,5 +1,5 @@
-//! All limits in Rust, in one file: first those of the log, which `cindrolf` gives on, then those of the commands and the
-//! store. A name that ends in `LIMIT` is the most that is taken: it is itself within the limit.
+//! All limits in Rust, in one file: first those of the log, which `cindrolf` re-exports, then those of the commands and
+//! the store. A name that ends in `LIMIT` is the largest value that is accepted.
 
 /// Words in a state buffer.
 pub const STATE_WORDS: usize = 527;

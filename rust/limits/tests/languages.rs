@@ -1,4 +1,4 @@
-//! The limits beside those of the other languages, by their names, and beside the reference's table.
+//! Compares the limits with those of the other languages, by their names, and with the reference's table.
 
 use std::collections::BTreeMap;
 

@@ -1,4 +1,4 @@
-//! Random histories that get somewhere: clients mostly do what comes next, and stale leaders go on for a while.
+//! Random histories that make progress: clients mostly take their next step, and stale leaders go on for a while.
 
 use crate::Step;
 use crate::lists::any_scores;

@@ -1,11 +1,12 @@
-//! A model of the chained run log, written from the scope of the log and the TLA+ specification LedgerChaining,
-//! and from no code of the library.
+//! A model of the chained run log, written from the scope of the log and the TLA+ specification LedgerChaining, not
+//! from the library's code.
 //!
-//! It says everything twice. [`words`] has the operations on buffers of any length and content, with the checks in the reference's
-//! order. [`source`] has histories of a fresh log in LedgerChaining's terms, where each client remembers the whole list. The test
-//! in `tests/` holds the two against each other, on random [`histories`]. [`scores`] has what a list of quality scores comes to, and [`lists`] has such lists.
-//! [`marks`] has the marks that are kept beside a log, [`rights`] who may take which step, [`plans`] steps as words, run in a row,
-//! [`storage`] rearranges words, of a log or not, and [`sentences`] has refusals in words.
+//! It says everything twice. [`words`] has the operations on buffers of any length and content, with the checks in the
+//! reference's order. [`source`] has histories of a fresh log in LedgerChaining's terms, where each client remembers
+//! the whole list. The test in `tests/` compares the two on random [`histories`]. [`scores`] has the sum of a list of
+//! quality scores, and [`lists`] has such lists. [`marks`] has the marks of a log, [`rights`] which client may take
+//! which step, [`plans`] steps as words, run in a row, [`storage`] rearranges words, of a log or not, and [`sentences`]
+//! has refusals in words.
 
 pub mod histories;
 pub mod layout;

@@ -1,4 +1,4 @@
-//! Marks: named points of a run, kept in a third buffer of any length and content, as the reference has them.
+//! Marks: named points of a run, kept in a third buffer of any length and content, as in the reference.
 
 use crate::Answer;
 use crate::layout::Entry;

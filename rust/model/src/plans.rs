@@ -1,4 +1,4 @@
-//! Plans: steps as words, run one after the other up to a budget, and what such a run would add, as the reference has them.
+//! Plans: steps as words, run one after the other up to a budget, and what such a run would add, as in the reference.
 
 use crate::{Answer, Step, words};
 

@@ -1,4 +1,4 @@
-//! Rights: which client may take which step, in a lent buffer of any length and content, as the reference has them.
+//! Rights: which client may take which step, in a buffer of any length and content, as in the reference.
 
 use crate::Step;
 

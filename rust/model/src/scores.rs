@@ -1,4 +1,5 @@
-//! Quality scores: the part of each, worked out by the reference's rule on whole numbers of any size, and the sum of a list.
+//! Quality scores: the part of each, computed by the reference's rule on whole numbers of any size, and the sum of a
+//! list.
 
 use std::sync::OnceLock;
 

@@ -1,4 +1,4 @@
-//! Refusals in words, as the reference has them. The reasons are read from its text.
+//! Refusals in words, as in the reference. The reasons are read from its text.
 
 use crate::words::{Checked, refuse_if};
 use std::collections::HashMap;

@@ -1,4 +1,4 @@
-//! Words rearranged for storage, and restored, as the reference describes it. No log is looked at.
+//! Words rearranged for storage, and restored, as the reference describes it. They need not be a log.
 
 use crate::Answer;
 

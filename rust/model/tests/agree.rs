@@ -1,4 +1,5 @@
-//! The two halves of the model against each other: LedgerChaining's terms and the reference's words, on random histories; and the reference's examples.
+//! Compares the two halves of the model: LedgerChaining's terms and the reference's words, on random histories; and the
+//! reference's examples.
 
 use model::histories::Profile;
 use model::layout::{Client, ENTRY_WORDS, Entry, Head, NONE, SMALL_ENTRY_WORDS, STATE_WORDS, client_index};

@@ -1,4 +1,4 @@
-//! The model's marks against words and answers that were worked out by hand from their description.
+//! Compares the model's marks with words and answers that were worked out by hand from their description.
 
 use model::layout::{ENTRY_WORDS, STATE_WORDS};
 use model::marks::{self, MARK_WORDS, Mark};

@@ -1,4 +1,4 @@
-//! The model's plans against words, counts and logs that were worked out by hand from their description.
+//! Compares the model's plans with words, counts and logs that were worked out by hand from their description.
 
 use model::layout::{ENTRY_WORDS, Head, STATE_WORDS};
 use model::plans::{Counts, forecast, parts, run, take, word};

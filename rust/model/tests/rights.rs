@@ -1,4 +1,4 @@
-//! The model's rights against words and answers that were worked out by hand from their description.
+//! Compares the model's rights with words and answers that were worked out by hand from their description.
 
 use model::layout::{ENTRY_WORDS, STATE_WORDS};
 use model::rights::{RIGHTS_WORDS, all, allows, bit, well_formed};

@@ -1,4 +1,4 @@
-//! The parts and sums of scores against numbers that were worked out apart from the model.
+//! Compares the parts and sums of scores with numbers that were computed apart from the model.
 
 use model::scores::{HIGHEST, part, sum};
 

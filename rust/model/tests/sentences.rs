@@ -1,4 +1,4 @@
-//! Sentences and refusals of the model, against texts worked out by hand.
+//! Compares sentences and refusals of the model with texts worked out by hand.
 
 use model::sentences::{Numbers, REASONS, TEXT_BYTES, read, write};
 

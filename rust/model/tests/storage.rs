@@ -1,4 +1,4 @@
-//! What the model rearranges against bytes that were worked out by hand from the description.
+//! Compares what the model rearranges with bytes that were worked out by hand from the description.
 
 use model::Answer;
 use model::storage::{rearrange, restore};

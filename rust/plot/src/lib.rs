@@ -1,4 +1,4 @@
-//! Small plots of how cost grows, as SVG. They have a white ground of their own, so that they can be read on any page.
+//! Small plots of how cost grows, as SVG. They have a white background, so that they can be read on any page.
 
 use std::fmt::Write;
 

@@ -1,9 +1,9 @@
 //! A connection to a server, safely, with a deadline for each command.
 //!
-//! Only the simple query protocol is used: a command is one message, which the server takes up when all of it is there,
-//! and whose transaction it ends without a further byte of the client. By `PQexecPrepared` a command is four messages,
-//! and one that is cut off before the last leaves its transaction open, and its lock held, for as long as the connection
-//! seems to live: no timeout of the server ends that.
+//! It uses only the simple query protocol: a command is one message, which the server starts when all of it is there,
+//! and whose transaction it ends without another byte of the client. With `PQexecPrepared` a command is four messages.
+//! If it is cut off before the last, its transaction stays open and its lock held as long as the connection seems
+//! alive: no timeout of the server ends that.
 
 use crate::Fault;
 use crate::raw::{self, Libpq, PGconn, PGresult, libpq};

@@ -1,6 +1,6 @@
-//! A connection to PostgreSQL by the system's libpq, safely: one message a command, and a deadline for each.
+//! A safe connection to PostgreSQL through the system's libpq: one message a command, and a deadline for each.
 //!
-//! libpq is loaded by the first connection. Where there is none, [`Connection::open`] says what to install.
+//! The first connection loads libpq. If there is none, [`Connection::open`] says what to install.
 
 mod connection;
 mod fault;

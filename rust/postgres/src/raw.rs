@@ -1,7 +1,7 @@
 //! libpq's C interface, as much of it as is used. Its manual is at postgresql.org/docs/15/libpq.html.
 //!
-//! The library is loaded when the first connection is made. So a program that keeps its logs in files neither needs it nor
-//! loads it, and with it the libraries for TLS and for directories that it rests on.
+//! The library is loaded when the first connection is made. So a program that keeps its logs in files neither needs it
+//! nor loads it, nor the libraries for TLS and for directories that it uses.
 
 use std::ffi::{CStr, c_char, c_int, c_void};
 use std::sync::OnceLock;

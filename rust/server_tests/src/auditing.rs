@@ -1,4 +1,5 @@
-//! An audit for tests: reads the rows of a log by SQL, replays them by the library, and tells the server its answers.
+//! An audit for tests: reads the rows of a log by SQL, replays them with the library, and sends the answers to the
+//! server.
 
 use crate::laboratory::Laboratory;
 use crate::sql_rows::{array, number};

@@ -1,4 +1,4 @@
-//! A server of PostgreSQL for one test, in a folder of its own. It ends with the test, also with one that is killed.
+//! A PostgreSQL server for one test, in its own folder. It ends with the test, even if the test is killed.
 
 use crate::port::Port;
 use crate::processes::{self, SIGKILL, children, lives, signal, works_in};

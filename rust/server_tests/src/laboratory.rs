@@ -1,4 +1,4 @@
-//! A server with the schema and those who log in to it, for tests that speak SQL.
+//! A server with the schema and its roles, for tests that use SQL.
 
 use crate::cluster::{Cluster, cluster_for};
 use crate::sql_rows::{self, Chain, SqlStep, bytes};

@@ -1,4 +1,4 @@
-//! What holds a log on a server against killed controllers, killed servers and a hostile network.
+//! Tests a log on a server with killed controllers, killed servers and a hostile network.
 
 pub mod auditing;
 pub mod cluster;

@@ -1,4 +1,4 @@
-//! Processes of the system: who lives, whose child it is, what it calls itself; and signals.
+//! Processes of the system: which are alive, their parents and names; and signals.
 
 use std::ffi::c_int;
 use std::path::Path;

@@ -1,4 +1,4 @@
-//! The programs of PostgreSQL's server, run by a user that may: it refuses to run as root.
+//! The programs of PostgreSQL's server, run by another user than root: it refuses to run as root.
 
 use std::os::unix::fs::MetadataExt;
 use std::path::{Path, PathBuf};

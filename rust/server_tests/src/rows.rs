@@ -1,4 +1,4 @@
-//! The rows of a log on a server, read by SQL, past the store.
+//! The rows of a log on a server, read by SQL, without the store.
 
 use crate::cluster::Cluster;
 use store_tests::journal::Row;

@@ -1,4 +1,4 @@
-//! Rows of a log as SQL has them, with their chain values by docs/SHARING.md, and from no code of the store.
+//! Rows of a log as in SQL, with their chain values by docs/SHARING.md, without any code of the store.
 
 /// A chain value.
 pub type Chain = [u8; 16];

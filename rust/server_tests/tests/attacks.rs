@@ -1,4 +1,4 @@
-//! What nobody may do to a log on a server, tried by each who logs in.
+//! What no role may do to a log on a server, tried by each role.
 
 use cindrolf_server_tests::auditing::audit;
 use cindrolf_server_tests::laboratory::{Laboratory, PEOPLE};

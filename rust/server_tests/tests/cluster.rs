@@ -1,4 +1,4 @@
-//! The server that tests start: what it keeps when it is killed, whom it serves, and that it ends with its test.
+//! The server that tests start: what it keeps when it is killed, which roles it serves, and that it ends with its test.
 
 use cindrolf_server_tests::cluster::{Cluster, OWNER, cluster_for};
 use cindrolf_server_tests::processes::{SIGKILL, lives, signal};

@@ -1,4 +1,4 @@
-//! A request that comes late, after the same was sent again another way and answered, is stored once.
+//! A request that arrives late, after it was sent again another way and answered, is stored once.
 
 use cindrolf::{Capacity, Kind, Step, value_of};
 use cindrolf_server_tests::cluster::address;

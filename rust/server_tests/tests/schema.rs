@@ -1,4 +1,4 @@
-//! The server's side of a log, as docs/SHARING.md asks it of an engine: tried by SQL, and compared with rows whose
+//! The server's side of a log, as docs/SHARING.md requires of an engine: tested by SQL, and compared with rows whose
 //! chain values are made here.
 
 use cindrolf_server_tests::laboratory::Laboratory;

@@ -1,4 +1,4 @@
-//! An answer means that the synchronous standby has it, too: also where the server gives up waiting for it.
+//! An answer means that the synchronous standby also has the rows, even if the server gives up waiting for it.
 
 use cindrolf::{Capacity, Kind, Step, value_of};
 use cindrolf_server_tests::cluster::{Cluster, address};

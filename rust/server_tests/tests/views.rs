@@ -1,5 +1,5 @@
-//! The views of a server beside those of a file with the same rows. Those of the file are compared with what the
-//! library reads by the tests of the store.
+//! Compares the views of a server with those of a file with the same rows. The tests of the store compare those of the
+//! file with what the library reads.
 
 use cindrolf::{Capacity, Right, Step, StepWord, VALUE_LIMIT};
 use cindrolf_server_tests::laboratory::Laboratory;

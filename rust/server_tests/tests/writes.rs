@@ -1,4 +1,5 @@
-//! A single write by the server's faster function: the same answers, refusals and rows as by the one for all requests.
+//! A single write by the server's faster function: the same answers, refusals and rows as with the function for all
+//! requests.
 
 use cindrolf_server_tests::laboratory::Laboratory;
 use cindrolf_server_tests::sql_rows::{Chain, after, bytes, write};

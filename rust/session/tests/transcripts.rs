@@ -1,4 +1,4 @@
-//! Sessions taken by this crate on the proved log, beside what the model prints for them.
+//! Sessions taken by this crate on the proved log, compared with what the model prints for them.
 
 use cindrolf::{ListPlace, Log, client_of, value_of};
 use expected::files::{input, input_names, root};

@@ -1,4 +1,4 @@
-//! A controller: it does what the kernel decides, and keeps its copy by the library.
+//! A controller: it does what the kernel decides, and keeps its copy with the library.
 
 use crate::change::Change;
 use crate::engine::Request;

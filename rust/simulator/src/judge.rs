@@ -1,4 +1,4 @@
-//! Holds what controllers were told against the rows and the model. It uses neither the kernel nor the library.
+//! Compares what controllers were told with the rows and the model. It uses neither the kernel nor the library.
 
 use crate::change::Change;
 use crate::controller::{Controller, End};

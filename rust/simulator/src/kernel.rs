@@ -1,4 +1,4 @@
-//! The kernel's decisions, and what becomes of them where a mistake is planted.
+//! The kernel's decisions, and what planted mistakes make of them.
 
 use crate::fault::Fault;
 use cindrolf::sharing;

@@ -1,4 +1,4 @@
-//! Runs seeds for a time, then has the judge find every planted mistake.
+//! Runs seeds for a time; then the judge has to find every planted mistake.
 
 use simulator::fault::Fault;
 use simulator::world::{Summary, run};

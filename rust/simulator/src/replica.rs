@@ -1,4 +1,4 @@
-//! A controller's own copy of the shared log, which the proved library makes of the rows.
+//! A controller's own copy of the shared log, which the proved library computes from the rows.
 
 use crate::change::Change;
 use cindrolf::{Answer, Capacity, Error, Log, MARK_WORDS, Refusal, Rights};

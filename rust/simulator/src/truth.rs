@@ -1,4 +1,4 @@
-//! The shared log as the model makes it of the rows: what the judge holds answers and copies against.
+//! The shared log as the model computes it from the rows: the judge compares answers and copies with it.
 
 use crate::change::Change;
 use cindrolf::Step;

@@ -1,4 +1,4 @@
-//! What controllers are asked for: mostly what comes next for their client, and now and then anything.
+//! What controllers are asked for: mostly the next step of their client, and sometimes any step.
 
 use crate::change::Change;
 use crate::replica::Replica;

@@ -1,4 +1,4 @@
-//! A run: controllers, the engine, and what goes on between them, from a seed.
+//! A run: controllers, the engine, and what happens between them, from a seed.
 
 use crate::change::Change;
 use crate::controller::{Call, Controller, End, Message, Reply, Todo, Told};

@@ -1,4 +1,4 @@
-//! A connection to a file of SQLite and its statements, safely.
+//! A safe connection to an SQLite file, and its statements.
 
 use crate::Fault;
 use crate::raw::{self as sqlite, Sqlite3, Sqlite3Stmt};

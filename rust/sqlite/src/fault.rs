@@ -1,4 +1,4 @@
-//! What SQLite answers where it does not do what it was asked.
+//! The errors of SQLite.
 
 use crate::raw as sqlite;
 use std::ffi::c_int;

@@ -1,4 +1,4 @@
-//! A connection to a file of SQLite, safely: its statements, its faults, and how it waits for the lock of another.
+//! A safe connection to an SQLite file: its statements, its faults, and how it waits for the lock of another.
 
 mod database;
 mod fault;

@@ -1,4 +1,4 @@
-//! The SQLite that is linked, and whether a log can be kept by it.
+//! The linked SQLite, and whether it can keep a log.
 
 use crate::raw as sqlite;
 

@@ -1,8 +1,8 @@
 //! How a connection waits for the lock of another.
 //!
-//! Waiting by short random sleeps, of 20 µs to 1 ms. SQLite's own waiting sleeps up to 100 ms at a time, and in a trial
-//! with sixteen processes some got no turn in a second. Two file locks in a row were fairer still there, but they know
-//! no deadline. No test here repeats that trial.
+//! It sleeps for short random times, of 20 µs to 1 ms. SQLite's own waiting sleeps up to 100 ms at a time, and in a
+//! trial with sixteen processes some got no turn in a second. Two file locks in a row were even fairer there, but they
+//! have no deadline. No test here repeats that trial.
 
 use std::ffi::{c_int, c_void};
 use std::sync::atomic::{AtomicBool, Ordering};

@@ -1,4 +1,4 @@
-//! The check of a whole log: what its engine checks, and every row taken once more, its answer compared.
+//! The check of a whole log: what its engine checks, and every row taken once more, with its answer compared.
 
 use std::fmt;
 

@@ -1,8 +1,8 @@
-//! Drives an engine: does what the kernel of the sharing protocol decides, and reports to it what came of that.
+//! Drives an engine: does what the kernel of the sharing protocol decides, and reports the results.
 //!
 //! The kernel is proved (crates/turns), and nothing else decides when a request is sent, told or refused. What a driver
-//! may report is in docs/SHARING.md. A request is given its id only when the engine is held, so that one which the log
-//! refuses meanwhile has no row. An engine that fails before it has sent anything ends the request: nothing is awaited,
+//! may report is in docs/SHARING.md. A request gets its id only while the engine is held, so that a request that the
+//! log then refuses has no row. If an engine fails before it has sent anything, the request ends: nothing is awaited,
 //! and the next one begins as after a start.
 
 use crate::check::WrongAnswer;

@@ -1,4 +1,4 @@
-//! What a store asks of where its rows are kept.
+//! What an engine that keeps a store's rows has to offer.
 
 use crate::check::WrongAnswer;
 use crate::replica::{Replica, Stamp};

@@ -1,4 +1,4 @@
-//! The rows of a log with all that is stored of them, to be shown or copied.
+//! The rows of a log with everything that is stored with them, to show or copy.
 
 use crate::replica::{Row, Stamp};
 use crate::request::reply;

@@ -1,4 +1,4 @@
-//! What a store asks of a log that is open, in a file or on a server.
+//! What a store needs of an open log, in a file or on a server.
 
 use crate::check::{Checked, WrongAnswer};
 use crate::driver::Wish;

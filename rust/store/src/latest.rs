@@ -1,4 +1,4 @@
-//! The log as it was when it was last looked at, to read.
+//! The log at the last look, to read.
 
 use crate::replica::Replica;
 use crate::{Error, LastRow};

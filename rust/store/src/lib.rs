@@ -1,10 +1,10 @@
-//! A run log that up to sixteen controller processes share, and that any of them may die in.
+//! A run log that up to sixteen controller processes share. Any of them may die at any time.
 //!
-//! The proved library answers what one call does to a log's words. A [`Store`] keeps the calls: a log is a list of
-//! requests, one row for each of their steps, and its words are what the library makes of them from a fresh log on. So to
-//! open a log is to check it. A request is stored in one transaction, and answered only when it is on the disk. A process
-//! that is killed at any moment leaves a log in which every write that was answered is stored, exactly once, and no step
-//! is half taken.
+//! The proved library says what one call does to a log's words. A [`Store`] keeps the calls: a log is a list of
+//! requests, one row for each of their steps, and the library computes its words from them, starting from a fresh log.
+//! So to open a log is to check it. A request is stored in one transaction, and answered only when it is on the disk.
+//! If a process is killed at any moment, every write that was answered is stored exactly once, and no step is half
+//! taken.
 //!
 //! ```
 //! use cindrolf::{Capacity, EntryNumber, Progress, Refusal};

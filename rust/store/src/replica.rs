@@ -1,17 +1,18 @@
-//! The process's own copy of a log: what the proved library makes of its rows, from the fresh log on.
+//! The process's own copy of a log, which the proved library computes from its rows, starting from the fresh log.
 //!
-//! A copy that is many rows short gathers their steps and has the library run them as a plan: the buffers are checked
-//! once for all of them, and a row costs some 8 ns in place of a microsecond. A plan does not tell the answer to each
-//! step. So accepted writes in a row are a plan: what their rows say is compared with the entries that it has made, and if
-//! these differ, the steps are taken once more, one by one. Other steps are taken singly, each answer compared, and so are
-//! one's own request and every row of a check. Only where a very long stretch of steps is missing all of it is one plan, of
-//! which the entries are compared.
+//! If a copy lacks many rows, the library runs their steps as a plan: it checks the buffers once for all of them, and a
+//! row costs some 8 ns instead of a microsecond. A plan does not return the answer to each step. So accepted writes in
+//! a row are a plan: what their rows say is compared with the entries that it has made, and if these differ, the steps
+//! are taken once more, one by one. Other steps are taken one by one, with each answer compared, and so are the
+//! process's own request and every row of a check. Only if a very long stretch of steps is missing, all of it is one
+//! plan, of which the entries are compared.
 //!
-//! One's own request is taken before its rows are stored, and taken back. What it had made of the copy is kept: where its
-//! rows come straight after those that the copy has, that is what they make of it, and nothing is taken a second time.
+//! The process's own request is taken before its rows are stored, and taken back. The result is kept: if its rows come
+//! straight after those of the copy, the result is the new copy, and nothing is taken a second time.
 //!
-//! A row that the library refuses in its place changes nothing, and is no damage. A stored answer that is not the
-//! library's is reported, and stops nobody: one wrong process would end the log for all, since no row is taken back.
+//! A row that the library refuses at its place changes nothing, and is no damage. A stored answer that is not the
+//! library's is reported, and stops no process: one wrong process would end the log for all, since no row can be taken
+//! back.
 
 use crate::request::{Change, Known, Told, number_of, reply};
 use crate::{CLIENT_ROW_LIMIT, Error, OTHER_ROW_LIMIT};

@@ -1,10 +1,10 @@
-//! What a row of a log asks for, its bytes, and the chain value that goes on over all rows.
+//! What a row of a log asks for, its bytes, and the chain value over all rows.
 //!
-//! A log is a list of requests, and nothing else: its words are what the proved library makes of them, from a fresh log
-//! on. A request has one row for each of its steps. Marks and rights are steps too, so that they are ordered with the
-//! others, replayed with them, and come to another process by the same way.
+//! A log is only a list of requests: the proved library computes its words from them, starting from a fresh log. A
+//! request has one row for each of its steps. Marks and rights are steps too, so that they are ordered with the others,
+//! replayed with them, and reach another process in the same way.
 //!
-//! Each row has a chain value, which is over its own bytes and the chain value of the row before. So a row that was
+//! Each row has a chain value, computed from its own bytes and the chain value of the row before. So a row that was
 //! changed, left out or put elsewhere is found, and two logs with the same last chain value have the same rows.
 //! docs/SHARING.md has the bytes; crates/shared proves that no two rows have the same.
 

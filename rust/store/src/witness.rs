@@ -1,8 +1,8 @@
-//! A small file of a controller's own with the last row that it was told of, so that it finds what a log has lost.
+//! A small file in which a controller keeps the last row that it knows, so that it finds what a log has lost.
 //!
-//! The log itself cannot tell that its last rows are gone, as when somebody puts back an older copy. The file has two
-//! lines, which are written in turn, so that one is whole at any moment. It is not synced: after a power loss it may be
-//! some rows old, and never has one that the log was not given.
+//! The log itself cannot show that its last rows are gone, for example after somebody restored an older copy. The file
+//! has two lines, which are written in turn, so that one is whole at any moment. It is not synced: after a power loss
+//! it may be some rows old, and never has one that the log was not given.
 
 use crate::{Error, Known, LastRow, Store};
 use std::fs::{File, OpenOptions};

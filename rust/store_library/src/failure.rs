@@ -1,4 +1,4 @@
-//! Why a call was not done: its status, and what the caller can ask the handle for.
+//! Why a call failed: its status, and what the caller can ask the handle for.
 
 use crate::Status;
 use cindrolf::Refusal;

@@ -1,4 +1,4 @@
-//! The handles: numbers that are given once, and the store that each open one is of.
+//! The handles: numbers that are given once, and the store of each open one.
 
 use crate::Status;
 use crate::failure::Failure;

@@ -1,8 +1,8 @@
-//! The store for controllers in C, C++ and Python: the functions of `include/cindrolf_store.h`, which says what each does and
-//! what its caller answers for.
+//! The store for controllers in C, C++ and Python: the functions of `include/cindrolf_store.h`, which says what each
+//! does and what its caller must ensure.
 //!
-//! A handle is a number that is never given twice, and leads to no memory: one that is null, closed or made up is found to be
-//! none. Each call takes its handle for itself, and gives `IN_USE` where another has it. No panic leaves a call.
+//! A handle is a number that is never given twice, and leads to no memory: one that is null, closed or made up is
+//! detected. Each call takes its handle for itself, and returns `IN_USE` if another has it. No panic leaves a call.
 
 // The header has the contract of each function, for its callers.
 #![allow(clippy::missing_safety_doc)]

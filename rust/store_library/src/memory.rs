@@ -1,4 +1,4 @@
-//! Memory that the caller lends: what can be told of a pointer is looked at before anything is read or written there.
+//! Memory of the caller: checks what can be checked of a pointer before anything is read or written there.
 
 use crate::failure::Failure;
 use std::ffi::{CStr, OsStr, c_char};

@@ -1,4 +1,4 @@
-//! Opening, creating and closing a log, and what a handle tells of its last call.
+//! Opening, creating and closing a log, and what a handle says about its last call.
 
 use crate::failure::Failure;
 use crate::handles::{self, Opaque, without};

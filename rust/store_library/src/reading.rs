@@ -1,4 +1,4 @@
-//! The log as it is now, what has changed of it, and whether it holds together.
+//! The log as it is now, what has changed, and whether it is consistent.
 
 use crate::failure::Failure;
 use crate::handles::{Opaque, with};

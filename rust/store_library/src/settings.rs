@@ -1,4 +1,4 @@
-//! How a handle waits, under which name it stores, where it keeps its last row, and what holds for the whole process.
+//! How a handle waits, with which name it stores rows, where it keeps its last row, and settings of the whole process.
 
 use crate::failure::Failure;
 use crate::handles::{Opaque, with};

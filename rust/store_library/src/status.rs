@@ -1,4 +1,4 @@
-//! The statuses that calls give: one table of their numbers, names and sentences, and which one an error of the store has.
+//! The statuses of calls: one table of their numbers, names and sentences, and the status of each error of the store.
 
 use std::ffi::{CStr, c_char, c_int};
 use store::{Error, Stored};

@@ -1,4 +1,4 @@
-//! Holds the logs that killed processes left against what these had noted.
+//! Compares the logs that killed processes left with their notes.
 
 use crate::journal::{self, Row};
 use crate::notes::{Collected, sum};

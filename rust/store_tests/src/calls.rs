@@ -1,4 +1,4 @@
-//! The system calls by which SQLite writes, made to fail, to wait, or to be seen.
+//! The system calls with which SQLite writes, made to fail, to wait, or to be recorded.
 //!
 //! SQLite finds these functions of the program before those of the C library. They do the same, unless told otherwise.
 

@@ -1,4 +1,4 @@
-//! What a check found, where nothing is to be wrong.
+//! What a check found, if nothing should be wrong.
 
 use store::{Checked, Error};
 

@@ -1,7 +1,7 @@
 //! The disk that a power failure leaves, from what was done to files before it.
 //!
 //! What was written and not synced may have reached the disk or not, each write by itself, and of a write any of its
-//! sectors. A file that was made, or whose name was taken away, may not be so on the disk until its folder is synced.
+//! sectors. A file that was made or removed may be missing or still there on the disk until its folder is synced.
 
 use crate::calls::{Done, What};
 use model::random::Random;

@@ -1,4 +1,4 @@
-//! Rows of a journal that nobody stored, with the chain values that they would have.
+//! Rows of a journal that no process stored, with the chain values that they would have.
 
 use std::path::Path;
 use store::database::{Database, Mode, Value};

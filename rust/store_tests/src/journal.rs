@@ -1,4 +1,4 @@
-//! The rows of a log, read past the store.
+//! The rows of a log, read without the store.
 
 use std::collections::BTreeMap;
 use std::path::Path;

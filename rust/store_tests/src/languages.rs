@@ -1,7 +1,7 @@
-//! Controllers in other languages, as processes that are given reads and tell what became of them.
+//! Controllers in other languages, as processes that get reads and report what became of them.
 //!
-//! A controller is given one value a line, and prints `stored V as entry E place P` or `refused V at row R: SENTENCE`. What is
-//! noted of it here is what the audit reads. It is killed at any moment; the notes are not.
+//! A controller gets one value a line, and prints `stored V as entry E place P` or `refused V at row R: SENTENCE`. The
+//! audit reads the notes that are made here. A controller may be killed at any moment; the notes stay.
 
 use crate::notes::{Note, Notes, Refused};
 use crate::signals::{SIGCONT, SIGSTOP, SIGTERM, send};

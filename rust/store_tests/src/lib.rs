@@ -1,4 +1,4 @@
-//! What holds the store against killed processes, failing disks and a clock.
+//! Tests the store with killed processes and failing disks, and measures it.
 
 pub mod answered;
 pub mod audit;

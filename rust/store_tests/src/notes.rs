@@ -1,4 +1,4 @@
-//! What a process notes of its steps in a file of its own, so that it can be asked for it after it was killed.
+//! What a process notes of its steps in its own file, to be read after it was killed.
 
 use std::collections::BTreeMap;
 use std::fs::{File, OpenOptions};

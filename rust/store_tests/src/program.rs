@@ -1,4 +1,4 @@
-//! Programs that a test starts, with an end to its patience.
+//! Programs that a test starts, with a time limit.
 
 use std::io::Read;
 use std::process::{Command, Stdio};

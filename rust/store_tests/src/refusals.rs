@@ -1,4 +1,4 @@
-//! Holds every refusal against the model, at the row of which it was decided.
+//! Compares every refusal with the model, at the row at which it was decided.
 
 use crate::journal::Row;
 use crate::notes::Refused;

@@ -1,4 +1,4 @@
-//! Logs that take one another's place as they fill, for measurements.
+//! Logs that replace each other as they fill, for measurements.
 
 use crate::shared::open_store;
 use cindrolf::{Capacity, Kind, Refusal, Step};

@@ -1,4 +1,4 @@
-//! What is measured of two sides that take turns, so that both meet the same machine.
+//! Measurements of two sides that take turns, so that both meet the same machine.
 
 use std::time::Duration;
 

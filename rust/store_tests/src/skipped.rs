@@ -1,4 +1,4 @@
-//! A test that cannot be made here says so by its name, past what the test runner keeps to itself.
+//! A test that cannot run here says so by its name, although the test runner captures output.
 
 use std::io::Write;
 

@@ -1,4 +1,4 @@
-//! How long calls took, noted by each process in a file of its own.
+//! How long calls took, noted by each process in its own file.
 
 use std::fs::{File, OpenOptions};
 use std::io::{self, Write};

@@ -1,4 +1,4 @@
-//! A controller process that follows the protocol on logs that rotate, and notes what it was answered.
+//! A controller process that follows the protocol on logs that rotate, and notes its answers.
 
 use crate::answered::Answered;
 use crate::calls;

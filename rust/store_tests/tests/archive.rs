@@ -1,4 +1,4 @@
-//! Archives: a log that is restored from one is the same, a changed byte is found, and nothing is made of a wrong one.
+//! Archives: a restored log is the same, a changed byte is found, and a wrong archive makes no log.
 
 use cindrolf::{Capacity, Kind, Step};
 use model::random::Random;

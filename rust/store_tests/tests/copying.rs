@@ -1,4 +1,4 @@
-//! Copies where the power fails, and on a file system that knows no rename which leaves a taken name alone.
+//! Copies when the power fails, and on a file system without a rename that keeps existing names.
 
 use model::random::Random;
 use std::fs;

@@ -1,4 +1,4 @@
-//! Files that are no log, or no longer one: each is refused, and left as it is.
+//! Files that are no log, or no longer one: each is refused, and not changed.
 
 use cindrolf::{Capacity, Right, Step};
 use model::random::Random;

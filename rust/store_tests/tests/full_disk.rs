@@ -1,4 +1,4 @@
-//! A log on a small file system that is filled, where one can be mounted.
+//! A log on a small file system that is full, if one can be mounted.
 
 use std::process::Command;
 use store_tests::scratch::Scratch;

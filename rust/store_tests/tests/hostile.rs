@@ -1,4 +1,4 @@
-//! Files that were made to deceive: what is in them is neither run nor believed.
+//! Deceptive files: the store neither runs nor trusts what is in them.
 
 use cindrolf::{Capacity, Refusal};
 use std::path::Path;

@@ -1,5 +1,6 @@
-//! A write-ahead log that one process begins again while another copies it to the file: nothing that was acknowledged is
-//! lost. SQLite 3.40.1 by itself loses it, where the second has read how long the log is before, and goes on after.
+//! A write-ahead log that one process restarts while another copies it to the file: no acknowledged write is lost.
+//! SQLite 3.40.1 by itself loses writes, if the second has read the log's length before the restart and goes on after
+//! it.
 
 use cindrolf::value_of;
 use std::path::Path;

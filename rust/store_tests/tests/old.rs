@@ -1,4 +1,4 @@
-//! Files of the earlier format: read as they are, and upgraded.
+//! Files of the earlier format: read and upgraded.
 
 use cindrolf::{Answer, value_of};
 use std::fs;

@@ -1,4 +1,4 @@
-//! Opening and closing a log: what is on the disk then, and what keeps it from being opened.
+//! Opening and closing a log: what is on the disk then, and what prevents opening.
 
 use cindrolf::{Capacity, value_of};
 use std::fs;

@@ -1,4 +1,4 @@
-//! Power failures at every moment of a log's life: what was answered is there, and no step is half there.
+//! Power failures at every moment of a log's life: what was answered is stored, and no step is half stored.
 
 use cindrolf::{Capacity, Step, StepWord};
 use model::random::Random;

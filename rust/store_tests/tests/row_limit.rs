@@ -1,4 +1,4 @@
-//! A journal with as many rows as one takes: of each client, and in all.
+//! A journal with the most rows that it takes: of each client, and in all.
 
 use cindrolf::{Capacity, Step};
 use std::time::Instant;

@@ -1,4 +1,4 @@
-//! The last row, which a controller keeps to find that a log has lost its end.
+//! The last row, which a controller keeps to find a lost tail.
 
 use cindrolf::{Capacity, Refusal, Step};
 use store::database::{Database, Mode};

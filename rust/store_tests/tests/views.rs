@@ -1,4 +1,4 @@
-//! The views of a log's file, against what the library reads.
+//! The views of a log's file, compared with what the library reads.
 
 use cindrolf::{
     Capacity, Client, EntryNumber, Kind, Ledger, LedgerNumber, Right, Step, StepWord, VALUE_LIMIT, client_of,

@@ -1,6 +1,6 @@
 //! A session or the rows of a log as a picture: a page of HTML to step through, or one static drawing.
 //!
-//! What is shown is computed here, by taking each step on the proved log. The page's script applies and undoes these
+//! This crate computes what is shown, by taking each step on the proved log. The page's script applies and undoes these
 //! changes; it knows no rule of the log.
 
 mod data;

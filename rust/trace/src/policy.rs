@@ -1,4 +1,4 @@
-//! SHA-256 in base 64, by which the page's policy names its own script and style.
+//! SHA-256 in base 64, with which the page's policy names its own script and style.
 
 use digest::sha256;
 

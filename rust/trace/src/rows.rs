@@ -1,4 +1,4 @@
-//! The frames of a log's rows: how each was answered in its place, and what it has changed.
+//! The frames of a log's rows: the answer of each at its place, and what it has changed.
 
 use crate::frames::{Frame, Frames, Outcome, entries, mark, moved, results};
 use crate::scene::{Change, Scene};

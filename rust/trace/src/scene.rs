@@ -1,4 +1,4 @@
-//! What a log shows at one moment, and what a step has changed of it.
+//! What a log shows at one moment, and what a step has changed.
 
 use cindrolf::{EntryNumber, LedgerNumber, Stage, View};
 

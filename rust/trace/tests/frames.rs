@@ -1,4 +1,4 @@
-//! The frames beside what the model prints for the same inputs, and their changes applied and undone.
+//! Compares the frames with what the model prints for the same inputs, and applies and undoes their changes.
 
 use cindrolf::Stage;
 use expected::files::{input, input_names, root};

@@ -1,4 +1,4 @@
-//! The frames of rows beside those of the session with the same steps, from any row on and of one client alone.
+//! Compares the frames of rows with those of the session with the same steps, from any row on and for one client.
 
 use cindrolf::{Answer, Error, Log, LogRef, Refusal, Step};
 use expected::files::{input, input_names, root};

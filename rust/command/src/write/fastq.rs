@@ -1,4 +1,4 @@
-//! Records of FASTQ: four lines each, of which the name and the scores of the bases are kept.
+//! FASTQ records: four lines each, of which we keep the name and the scores of the bases.
 
 use crate::printable::printable;
 use limits::{NOTE_LIMIT, READ_LINE_LIMIT};

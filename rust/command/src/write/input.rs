@@ -1,7 +1,7 @@
-//! The bytes of reads: of a file, a pipe or standard input, as they are or packed by gzip.
+//! The bytes of reads: from a file, a pipe or standard input, plain or packed by gzip.
 //!
-//! What is packed is known by its first two bytes, and unpacked by the command gzip: it is on every Debian, runs on another
-//! core, and the program links no library for it.
+//! The first two bytes show whether input is packed. The command gzip unpacks it: it is on every Debian, runs on
+//! another core, and the program links no library for it.
 
 use crate::failure::Failure;
 use crate::signals::{Signals, Waited};

@@ -1,4 +1,4 @@
-//! How far the writing has come, on a terminal: how many reads, how many a second, and how long it takes still.
+//! The progress of writing, on a terminal: how many reads, how many a second, and the time left.
 
 use std::io::{IsTerminal, Write};
 use std::time::{Duration, Instant};

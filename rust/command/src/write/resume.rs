@@ -1,8 +1,8 @@
-//! The reads of an interrupted writing that are stored, passed over in the input.
+//! Skips the reads of the input that an interrupted `write` has stored.
 //!
-//! A read is found by its place: the n-th read of the client that is stored with a note, over all logs in their order, has to
-//! be the n-th of the input that the log does not refuse, with the same name and the same scores. So a name that occurs
-//! twice, or was cut, leads to no other read; and where anything differs, nothing is written.
+//! A read is found by its place: the n-th read of the client that is stored with a note, over all logs in their order,
+//! has to be the n-th of the input that the log does not refuse, with the same name and the same scores. So a name that
+//! occurs twice, or was cut, leads to no other read; and if anything differs, nothing is written.
 
 use crate::failure::Failure;
 use crate::signals::Signals;

@@ -1,4 +1,4 @@
-//! Reads as FASTQ, logs to write them to, and what is stored of them.
+//! Reads as FASTQ, logs to write them to, and what these store.
 
 use super::Folder;
 use model::random::Random;

@@ -1,4 +1,4 @@
-//! A terminal of a test's own, in which the program is started, and what that shows.
+//! A terminal in which a test starts the program, and what it shows.
 
 use std::ffi::{c_int, c_ulong, c_void};
 use std::fs::File;

@@ -1,4 +1,5 @@
-//! Has controllers share logs on a server while controllers, servers and networks fail, and sees that nothing is lost.
+//! Lets controllers share logs on a server while controllers, servers and networks fail, and checks that nothing is
+//! lost.
 
 use cindrolf_server_tests::fault::Fault;
 use cindrolf_server_tests::programs;

@@ -1,5 +1,5 @@
-//! Acknowledged writes a second, by the store on a server beside plain inserts through libpq: every 100 ms all writers change
-//! from one to the other.
+//! Acknowledged writes a second, by the store on a server and by plain inserts through libpq: every 100 ms all writers
+//! change from one to the other.
 
 use cindrolf_server_tests::measured::{Beside, Setup, measured, server};
 use cindrolf_server_tests::programs;

@@ -1,8 +1,8 @@
-//! Starts a server with the schema of run logs, and runs a command beside it: with_server COMMAND..
+//! Starts a server with the schema of run logs, and runs a command with it: with_server COMMAND..
 //!
-//! CINDROLF_TEST_CONTROLLERS names the database for two controllers, through a network that the command breaks by a line on
-//! its standard output: `silence` has no answer of the server pass, and `heal` lets all pass again. Each line is answered
-//! by `done`. Without PostgreSQL the status is 77.
+//! CINDROLF_TEST_CONTROLLERS names the database for two controllers, through a network that the command breaks by a
+//! line on its standard output: `silence` stops all answers of the server, and `heal` lets them pass again. The reply
+//! to each line is `done`. Without PostgreSQL the status is 77.
 
 use cindrolf_server_tests::cluster::address;
 use cindrolf_server_tests::controllers::{laboratory, role};

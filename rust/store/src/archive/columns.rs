@@ -1,4 +1,4 @@
-//! The rows of a log by columns, as an archive has them.
+//! The rows of a log by columns, as in an archive.
 
 use super::sections::{Reader, Writer};
 use crate::journal::{EachRow, StoredRow};

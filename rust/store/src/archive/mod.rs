@@ -1,7 +1,7 @@
-//! A whole run in one file for archive disks: written from a log, and made a log again.
+//! A whole run in one file for archive disks: written from a log, and restored to a log.
 //!
-//! An archive has the requests of a log, from which the library makes everything else: so answers, words and totals are
-//! not in it. To restore one is to take its steps once more. docs/REFERENCE.md has its format.
+//! An archive has the requests of a log, from which the library computes everything else: so it has no answers, words
+//! and totals. To restore one is to take its steps once more. docs/REFERENCE.md has its format.
 
 mod columns;
 mod sections;

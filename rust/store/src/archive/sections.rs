@@ -1,9 +1,9 @@
 //! The bytes of an archive: sections of words in rearranged blocks and sections of bytes, and a digest over all of them.
 //!
-//! Words of one kind are similar: the ids of requests rise, times rise, and steps repeat. The library's rearranging makes
-//! differences of them and puts the same bytes of all words together, which a compressor makes little of. Texts and scores
-//! are left as they are: of 614,400 scores zstd made 239 kB, of the same rearranged, one to a word, 315 kB, and four to a word
-//! 483 kB.
+//! Words of one kind are similar: the ids of requests rise, times rise, and steps repeat. The library's rearranging
+//! makes differences of them and puts the same bytes of all words together, which compress well. Texts and scores are
+//! left unchanged: of 614,400 scores zstd made 239 kB, of the same rearranged, one to a word, 315 kB, and four to a
+//! word 483 kB.
 
 use crate::Error;
 use limits::REARRANGE_LIMIT;

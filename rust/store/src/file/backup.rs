@@ -1,10 +1,10 @@
 //! A copy of a log's file, made while others write.
 //!
-//! A copy is renamed, and never linked. `renameat2` with `RENAME_NOREPLACE` gives the name only where nobody has it,
-//! and leaves one name; where the file system has none, an empty file holds the name for a plain rename.
+//! A copy is renamed, and never linked. `renameat2` with `RENAME_NOREPLACE` gives the name only if no file has it, and
+//! leaves one name; if the file system does not support it, an empty file holds the name for a plain rename.
 //!
-//! Which file a failed copy is blamed on. SQLite does not say which of the two failed. The log is checked then: if it
-//! holds together, the copy is at fault.
+//! Which file a failed copy is blamed on. SQLite does not say which of the two failed. So the store checks the log: if
+//! it is consistent, the copy is at fault.
 
 use super::file_name::{self, rename_new};
 use super::store::FileStore;

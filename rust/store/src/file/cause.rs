@@ -1,4 +1,4 @@
-//! Why a file could not be opened or changed, where SQLite's own words would not tell.
+//! Why a file could not be opened or changed, if SQLite's message does not say.
 
 use super::system::{account, may_read_and_write};
 use super::watched::Beside;

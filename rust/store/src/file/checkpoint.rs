@@ -1,13 +1,13 @@
-//! The write-ahead log copied to the file, only while the write lock is held for certain.
+//! Copies the write-ahead log to the file, only while the write lock is certainly held.
 //!
-//! SQLite's own checkpoint reads how long the log is, and then copies. In SQLite 3.40.1 another process may begin the
-//! log again in between; then the first notes pages as copied that are not, and what is written to them is lost. With
+//! SQLite's own checkpoint reads how long the log is, and then copies. In SQLite 3.40.1 another process may restart the
+//! log in between; then the first process marks pages as copied that are not, and what is written to them is lost. With
 //! two of three processes delayed at these places, 497 of 998 acknowledged writes were left, and `check` found nothing.
-//! So SQLite copies nothing by itself: one connection holds `BEGIN IMMEDIATE`, and a second one copies.
-//! `wal_checkpoint(RESTART)` or `(TRUNCATE)` would take the lock too, but copy without it where they do not get it in
-//! time. Who stores a row whose number is a multiple of 64 looks whether the log has 512 pages: so one process does it,
-//! and if readers have kept the log from being begun again, another does soon after. The last process that closes the
-//! log leaves the copying to SQLite, under the exclusive lock of the file.
+//! So SQLite never copies by itself: one connection holds `BEGIN IMMEDIATE`, and a second one copies.
+//! `wal_checkpoint(RESTART)` or `(TRUNCATE)` would take the lock too, but copy without it if they do not get it in
+//! time. A process that stores a row whose number is a multiple of 64 looks whether the log has 512 pages: so one
+//! process does it, and if readers prevent a restart of the log, another does soon after. The last process that closes
+//! the log leaves the copying to SQLite, under the exclusive lock of the file.
 
 use super::FileEngine;
 use super::store::FileStore;

@@ -1,4 +1,4 @@
-//! The names of files: which are none of a file, and how a file gets one that no other has.
+//! The names of files: which cannot be a file's, and how a file gets one that no other has.
 
 use crate::Error;
 use std::ffi::{CString, c_char, c_int, c_uint};

@@ -1,7 +1,7 @@
 //! Which process holds a log's lock, as the kernel lists it.
 //!
-//! To ask for it by `fcntl` the file beside the log would have to be opened, and closing that would drop the locks of
-//! this process.
+//! To ask with `fcntl` we would have to open the file beside the log, and closing it would drop the locks of this
+//! process.
 
 use std::fs::File;
 use std::io::Read;

@@ -1,10 +1,10 @@
-//! The engine that keeps rows in a file of SQLite, which processes of one computer share.
+//! The engine that keeps rows in an SQLite file, which processes of one computer share.
 //!
 //! A request is one transaction that begins with the write lock. A copy that had every row some milliseconds ago is few
-//! rows short; an older one follows the rows before that, and again every few milliseconds while it waits for the lock. So
-//! under the lock there are few rows to follow. Where SQLite tells that nothing was committed since the copy had every row,
-//! there is nothing to read. The answers of the request are known when its rows are inserted, so that they are stored with
-//! them.
+//! rows short; an older one follows the rows before that, and again every few milliseconds while it waits for the lock.
+//! So under the lock there are few rows to follow. If SQLite says that nothing was committed since the copy had every
+//! row, there is nothing to read. The answers of the request are known when its rows are inserted, so that they are
+//! stored with them.
 
 pub mod backup;
 pub mod cause;

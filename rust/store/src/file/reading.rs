@@ -1,4 +1,4 @@
-//! The rows of a file with all that is stored of them.
+//! The rows of a file with everything that is stored with them.
 
 use super::schema::Format;
 use super::store::FileStore;

@@ -1,4 +1,4 @@
-//! The tables and views of a log's file, and the numbers by which the file is known.
+//! The tables and views of a log's file, and the numbers that identify the file.
 
 use crate::Error;
 use crate::replica::Replica;

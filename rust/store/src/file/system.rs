@@ -1,4 +1,4 @@
-//! The C library's functions that Rust's has not, as far as they are used.
+//! The functions of the C library that Rust's lacks and we use.
 
 use std::ffi::{CStr, CString, c_char, c_int, c_uint};
 use std::io;

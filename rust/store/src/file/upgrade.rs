@@ -1,4 +1,4 @@
-//! A new file made of the rows of another log: of a file of the earlier format, or of a server.
+//! A new file made from the rows of another log: of a file of the earlier format, or of a server.
 
 use super::backup::{Part, of_the_copy};
 use super::file_name;

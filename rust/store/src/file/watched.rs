@@ -1,11 +1,12 @@
 //! The files of a log on the disk: which ones they are, and whether their names still lead to them.
 //!
-//! The name of the write-ahead log is looked at after each call, and the file's own before it: one system call more for
-//! a step, some 0.6 µs. It asks for the file's number, and not for its times, as Rust's own function does: the kernel
-//! then notes the next change's time more exactly, and that is one more thing to write. On ext4 and Linux 6.18 a write
-//! with its sync took 123 and 135 µs alone, 134 and 128 with the look at the number, and 182 and 193 with the times. To
-//! look at `-shm` as well would be another call; it goes only where somebody removes it by hand. A connection whose
-//! write-ahead log has lost its name is closed without copying, since others may have gone on without it.
+//! The store checks the name of the write-ahead log after each call, and the file's own before it: one more system call
+//! for a step, some 0.6 µs. It asks for the file's number, and not for its times, as Rust's own function does: the
+//! kernel then notes the next change's time more exactly, and that is one more thing to write. On ext4 and Linux 6.18 a
+//! write with its sync took 123 and 135 µs alone, 134 and 128 with the look at the number, and 182 and 193 with the
+//! times. To look at `-shm` as well would be another call; it disappears only if somebody removes it by hand. A
+//! connection whose write-ahead log has lost its name is closed without copying, since others may have gone on without
+//! it.
 //!
 //! A store that has to read the file from the beginning must find the last row that it had read or stored, with its
 //! checksum. So a controller that goes on running finds steps that were lost with a removed file.

@@ -1,4 +1,4 @@
-//! The answers of rows, which SQL cannot give: each row is taken by the library, and its answer sent to the server.
+//! The answers of rows, which SQL cannot give: the library takes each row, and its answer is sent to the server.
 
 use super::engine::{ServerEngine, load};
 use crate::engine::Engine;

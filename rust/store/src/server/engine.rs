@@ -1,4 +1,4 @@
-//! Rows in a database of PostgreSQL: read, and appended by a function of the server.
+//! Rows in a PostgreSQL database: read, and appended by a function of the server.
 
 use crate::address::ServerAddress;
 use crate::check::WrongAnswer;

@@ -1,4 +1,4 @@
-//! A log of another place copied to a server, with its ids, times, processes and notes.
+//! A log from another place copied to a server, with its ids, times, processes and notes.
 
 use super::engine::{ServerEngine, create_call};
 use crate::Error;

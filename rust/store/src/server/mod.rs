@@ -1,8 +1,8 @@
-//! The engine that keeps rows in a database of PostgreSQL, which controllers on many computers share.
+//! The engine that keeps rows in a PostgreSQL database, which controllers on many computers share.
 //!
-//! A request is one call of one function of the server, in one message. Under a lock of the server's own it looks at the
-//! last row, adds the request after it, and answers its place. So no controller holds a lock, and one that falls silent at
-//! any byte of what it sends stops nobody.
+//! A request is one call of one function of the server, in one message. Under a lock of the server it looks at the last
+//! row, adds the request after it, and answers its place. So no controller holds a lock, and one that falls silent at
+//! any byte of its message stops no other.
 
 mod audit;
 mod engine;

@@ -1,5 +1,5 @@
-//! A log on a file system that is really full: FOLDER, on which a small one is mounted that only this process sees.
-//! Ends with status 77 where mounting is not allowed.
+//! A log on a file system that is really full: mounts a small one on FOLDER, which only this process sees. Ends with
+//! status 77 if mounting is not allowed.
 
 use cindrolf::Capacity;
 use std::ffi::{CString, c_char, c_int, c_ulong, c_void};

@@ -1,4 +1,4 @@
-//! Kills and stops processes that share logs, at any moment, and sees that nothing that was acknowledged is lost and that
+//! Kills and stops processes that share logs, at any moment, and checks that no acknowledged write is lost and that
 //! every refusal is right.
 
 use model::random::Random;

@@ -1,4 +1,4 @@
-//! Has controllers in several languages share logs, kills them at any moment, and audits the logs as `killing` does.
+//! Lets controllers in several languages share logs, kills them at any moment, and audits the logs as `killing` does.
 
 use cindrolf::{Kind, Step};
 use limits::LEDGER_LIMIT;

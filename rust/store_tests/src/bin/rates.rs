@@ -1,5 +1,5 @@
-//! Acknowledged writes a second, by the store beside plain SQLite, and one by one beside requests of many: every 100 ms all
-//! processes change from one to the other.
+//! Acknowledged writes a second, by the store and by plain SQLite, and one by one and in requests of many: every 100 ms
+//! all processes change from one to the other.
 
 use cindrolf::{Answer, Log, Rights, Step};
 use std::path::{Path, PathBuf};

@@ -1,5 +1,5 @@
-//! Writes values as a client by the advised steps, for tests with several processes: FILE CLIENT FIRST COUNT.
-//! Prints each value that is stored, with its entry number.
+//! Writes values as a client with the advised steps, for tests with several processes: FILE CLIENT FIRST COUNT. Prints
+//! each value that is stored, with its entry number.
 
 use cindrolf::{Kind, Refusal, Step};
 use std::process::ExitCode;
