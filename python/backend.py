@@ -1,6 +1,6 @@
-"""Makes the wheel of the package for pip (PEP 517), by the standard library alone.
+"""Makes the wheel of the package for pip (PEP 517), with only the standard library.
 
-The wheel keeps the folder of the libraries that stand beside these sources, below a prefix or in a checkout.
+The wheel keeps the folder of the libraries beside these sources, below a prefix or in a checkout.
 """
 
 import base64

@@ -1,7 +1,6 @@
-/* The version of the library, null pointers with length 0, which every function takes for an empty buffer, an empty ledger that
- * its leader closes, the limits of lent scores, wide values, the numbers and places that writes answer, those of advised steps,
- * marks, rights, plans, steps by their numbers, words that are rearranged, refusals in words, the turns of a shared log, and a
- * log of 512 entry words. It compiles as C and as C++. */
+/* The version of the library, null pointers with length 0, which are empty buffers, an empty ledger that its leader closes, the limits of
+ * scores, wide values, the numbers and places that writes answer, those of advised steps, marks, rights, plans, steps by their numbers,
+ * rearranged words, refusals in words, the turns of a shared log, and a log of 512 entry words. It compiles as C and as C++. */
 #include "cindrolf.h"
 
 #include <inttypes.h>

@@ -1,5 +1,6 @@
-/* Calls every function of cindrolf.h and cindrolf_store.h with random and hostile arguments for a time: fuzz SECONDS SEED FOLDER. Each piece of memory
- * that it lends stands between pages that cannot be touched, so that a byte too much ends the program. `fuzz --list` prints the names that it calls. */
+/* Calls every function of cindrolf.h and cindrolf_store.h with random and hostile arguments for a time: fuzz SECONDS SEED FOLDER. Each
+ * piece of memory that it passes is between inaccessible pages, so that a byte too much ends the program. `fuzz --list` prints the names
+ * that it calls. */
 #define _DEFAULT_SOURCE
 #include "cindrolf_store.h"
 

@@ -1,4 +1,4 @@
-/* Mistakes that tests/fuzz.c has to find: with PLANTED as its number, one function stands here in place of the library's. */
+/* Mistakes that tests/fuzz.c has to find: the number PLANTED chooses one function that replaces the library's. */
 #define _GNU_SOURCE
 #include "cindrolf_store.h"
 

@@ -1,5 +1,6 @@
-/* The store from C and C++: handles that are none, opening, statuses and messages, a handover whose words the readers of cindrolf.h read,
- * batches, plans, marks, rights, waits for changes, threads and forks. It works in the folder that it is given, and compiles as C and as C++. */
+/* The store from C and C++: invalid handles, opening, statuses and messages, a handover whose words the readers of cindrolf.h read,
+ * batches, plans, marks, rights, waits for changes, threads and forks. Its argument is the folder that it works in. It compiles as C and as
+ * C++. */
 #define _POSIX_C_SOURCE 200809L
 #include "cindrolf_store.h"
 

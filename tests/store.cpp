@@ -1,5 +1,5 @@
-// The header for C++17: handles that close themselves and move, answers, exceptions, views, snapshots and batches. It works in the folder
-// that it is given.
+// The header for C++17: handles that close themselves and move, answers, exceptions, views, snapshots and batches. Its argument is the
+// folder that it works in.
 #include "cindrolf_store.hpp"
 #include "cindrolf_store.hpp"
 

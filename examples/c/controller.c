@@ -1,4 +1,4 @@
-/* Two controllers that do what the adviser says. It prints the steps of each, and what became of its read. */
+/* Two controllers that follow the adviser. Prints the steps of each, and what became of its read. */
 #include "cindrolf.h"
 
 #include <inttypes.h>

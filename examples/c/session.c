@@ -1,4 +1,5 @@
-/* The example session of docs/REFERENCE.md, step by step through the C functions. It prints what the session program prints and checks every answer. */
+/* The example session of docs/REFERENCE.md, step by step through the C functions. Prints what the session program prints and checks every
+ * answer. */
 #include "cindrolf.h"
 
 #include <inttypes.h>

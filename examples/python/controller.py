@@ -1,4 +1,4 @@
-"""Writes reads to a shared log by the steps that the adviser names: controller.py ADDRESS CLIENT VALUE.."""
+"""Writes reads to a shared log with the steps that the adviser names: controller.py ADDRESS CLIENT VALUE.."""
 
 import sys
 

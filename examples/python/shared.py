@@ -1,4 +1,4 @@
-"""A controller that shares a log with others. It writes the reads that it is given, one value a line, by the steps that the adviser names;
+"""A controller that shares a log with others. It reads one value a line and writes it with the steps that the adviser names; it
 hands over to the next client after 16 of them; and on SIGINT or SIGTERM hands over, closes the log and ends."""
 
 import os

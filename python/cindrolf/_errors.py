@@ -10,14 +10,14 @@ from ._values import Status
 
 
 class Error(Exception):
-    """A call that was not done."""
+    """A call that failed."""
 
     #: The status of the call.
     status: Status = Status.INTERNAL
 
     @property
     def may_be_stored(self) -> bool:
-        """Whether the step may be stored all the same. Where not, it is not, and never will be."""
+        """Whether the step may be stored all the same. If false, it is not stored, and never will be."""
         return self.status in (Status.UNKNOWN, Status.UNWITNESSED, Status.INTERNAL)
 
 
@@ -48,7 +48,7 @@ def _again(number: int, said: str) -> Refused:
 
 
 def sentence(number: int, step: Optional[int] = None, client: Optional[int] = None) -> str:
-    """A refusal in words, by the proved library: with the step and the client where there are any, else the reason alone."""
+    """A refusal in words, by the proved library: with the step and the client if there are any, else only the reason."""
     text = ctypes.create_string_buffer(_library.TEXT_BYTES)
     named = step is not None and client is not None
     said = _library.log.cindrolf_sentence(step if named else 0, client if named else 0, number, text, len(text))
@@ -60,7 +60,7 @@ def sentence(number: int, step: Optional[int] = None, client: Optional[int] = No
 
 
 class NotStored(Error):
-    """Something failed, as a full disk, and nothing is stored: try again."""
+    """Something failed, such as a full disk, and nothing is stored: try again."""
 
     status = Status.NOT_STORED
 
@@ -80,7 +80,7 @@ class Unwitnessed(Error):
 
 
 class Damaged(Error):
-    """The log does not hold together, or has lost rows: stop."""
+    """The log is inconsistent, or has lost rows: stop."""
 
     status = Status.DAMAGED
 
@@ -98,7 +98,7 @@ class Busy(Error):
 
 
 class Full(Error):
-    """The log takes no further row: go on with another log."""
+    """The log takes no more rows: go on with another log."""
 
     status = Status.FULL
 
@@ -110,7 +110,7 @@ class Forbidden(Error):
 
 
 class ReadOnly(Error):
-    """The log was opened to read only, or is of an earlier version."""
+    """The log was opened only to read, or is of an earlier version."""
 
     status = Status.READ_ONLY
 
@@ -152,7 +152,7 @@ class Closed(Error):
 
 
 class InUse(Error):
-    """Another thread uses this log just now, and nothing was done: open it once for each thread."""
+    """Another thread is using this log, and nothing was done: open it once for each thread."""
 
     status = Status.IN_USE
 

@@ -1,4 +1,4 @@
-"""Finds the two libraries, and declares their functions as include/cindrolf.h and include/cindrolf_store.h have them."""
+"""Finds the two libraries, and declares their functions as in include/cindrolf.h and include/cindrolf_store.h."""
 
 from __future__ import annotations
 

@@ -93,7 +93,7 @@ class Log(Reading, Steps):
         return _answered(answer, Step.WRITE, client)
 
     def run_plan(self, plan: Numbers, budget: Optional[int] = None) -> int:
-        """Takes the steps of a plan up to the budget, and gives how many. A refused step counts, and the next is taken."""
+        """Takes the steps of a plan up to the budget, and returns how many. A refused step counts, and the next is taken."""
         memory, count = words_of(plan, "plan")
         most = count if budget is None else word(budget, "budget")
         lent = (*self._buffers(), self._rights, len(self._rights), memory, count)

@@ -61,7 +61,7 @@ def view(words: Any, count: Optional[int] = None) -> memoryview:
 
 
 class Reading:
-    """What can be read of a log. Each call reads the log as it is then; a `Snapshot` is all of one moment."""
+    """What can be read of a log. Each call reads the log at that moment; all of a `Snapshot` is of one moment."""
 
     def _words(self) -> Words:
         raise NotImplementedError
@@ -78,18 +78,18 @@ class Reading:
         return bool(self._read("cindrolf_well_formed"))
 
     def advise(self, client: int) -> Optional[Step]:
-        """The step that a client should take next; none where another client is named and this one does not lead."""
+        """The step that a client should take next; none if another client is named and this one does not lead."""
         step = given(self._read("cindrolf_advise", word(client, "client")))
         return None if step == NO_STEP else Step(step)
 
     def entries(self) -> memoryview:
         """The words of all entries, in the order of their numbers, with their ledgers: see `ledger_of`, `client_of` and `value_of`.
-        It is a sequence of numbers, and memory that numpy takes as it is: ``numpy.asarray(log.entries())``, which pandas takes in turn."""
+        It is a sequence of numbers, and memory that numpy uses directly: ``numpy.asarray(log.entries())``, also for pandas."""
         words = self._words()
         return view(words.entries, _count(words))
 
     def chain(self) -> memoryview:
-        """The words of the entries of all listed ledgers, in the order of the list, without their ledgers; a sequence as `entries`."""
+        """The words of the entries of all listed ledgers, in the order of the list, without their ledgers; a sequence like `entries`."""
         words = self._words()
         output = (ctypes.c_uint64 * len(words.entries))()
         read = _library.log.cindrolf_read_chain(*self._lent(words), output, len(output))
@@ -134,7 +134,7 @@ class Reading:
         return {mark_text(kept[at]): kept[at + 1] >> 51 for at in range(0, len(kept), 2) if kept[at]}
 
     def read_mark(self, name: Union[str, bytes]) -> memoryview:
-        """The chain as it was when the mark was set; a sequence as `chain`."""
+        """The chain as it was when the mark was set; a sequence like `chain`."""
         words = self._words()
         output = (ctypes.c_uint64 * len(words.entries))()
         lent = (*self._lent(words), words.marks, len(words.marks), mark_name(name))
@@ -188,5 +188,5 @@ class Snapshot(Reading):
         return view(self._kept.state)
 
     def entry_buffer(self) -> memoryview:
-        """All words of the entry buffer, those that hold no entry among them."""
+        """All words of the entry buffer, also those that hold no entry."""
         return view(self._kept.entries)

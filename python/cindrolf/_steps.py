@@ -6,7 +6,7 @@ from ._values import Answer, Step
 
 
 class Steps:
-    """What changes a log in memory and a shared one alike. A refusal is raised as `Refused`."""
+    """The steps of a log in memory and of a shared one. A refusal is raised as `Refused`."""
 
     def take(self, step: int, client: int, value: int = 0) -> Answer:
         """Takes a step. The value counts only for a write."""
@@ -29,11 +29,11 @@ class Steps:
         return self.take(Step.FETCH, client)
 
     def close_last(self, client: int) -> Answer:
-        """The client fences the last ledger: done, was closed, or behind."""
+        """The client fences the last ledger: done, was closed, or `behind`."""
         return self.take(Step.CLOSE_LAST, client)
 
     def finish(self, client: int) -> Answer:
-        """The client closes the ledger that is fenced: done or behind."""
+        """The client closes the fenced ledger: done or `behind`."""
         return self.take(Step.FINISH, client)
 
     def create_ledger(self, client: int) -> Answer:
@@ -41,7 +41,7 @@ class Steps:
         return self.take(Step.CREATE, client)
 
     def append(self, client: int) -> Answer:
-        """The client appends its ledger to the list: done or behind."""
+        """The client appends its ledger to the list: done or `behind`."""
         return self.take(Step.APPEND, client)
 
     def write(self, client: int, value: int) -> Answer:
@@ -49,5 +49,5 @@ class Steps:
         return self.take(Step.WRITE, client, value)
 
     def close_own(self, client: int) -> Answer:
-        """The client closes its own ledger: done or behind."""
+        """The client closes its own ledger: done or `behind`."""
         return self.take(Step.CLOSE_OWN, client)

@@ -20,8 +20,8 @@ Address = Union[str, bytes, "os.PathLike[str]"]
 
 
 class Asked(NamedTuple):
-    """A step of a batch: a `Step` or a `Kind`, its client, its value (of a mark the word of its name, of rights the word), its scores,
-    and a note of up to 200 bytes for people, as the name of a read."""
+    """A step of a batch: a `Step` or a `Kind`, its client, its value (for a mark the word of its name, for rights the word), its scores,
+    and a note of up to 200 bytes for people, such as the name of a read."""
 
     kind: int
     client: int = 0
@@ -66,7 +66,7 @@ class Store(Reading, Steps):
             _library.store.cindrolf_store_close(handle, None, 0)
 
     def close(self) -> None:
-        """Closes the log. No step rests on it: what was answered is stored. A second call does nothing."""
+        """Closes the log. No step depends on it: what was answered is stored. A second call does nothing."""
         if self._handle is None:
             return
         why = ctypes.create_string_buffer(_library.MESSAGE_BYTES)
@@ -77,7 +77,7 @@ class Store(Reading, Steps):
             raise of_status(status, why.value.decode(errors="replace"))
 
     def _fail(self, status: int) -> None:
-        """Raises why the last call was not done."""
+        """Raises the error of the last call."""
         why, request = ctypes.create_string_buffer(_library.MESSAGE_BYTES), ctypes.c_uint64()
         _library.store.cindrolf_store_message(self._handle, why, len(why))
         if status == Status.UNKNOWN:
@@ -117,7 +117,7 @@ class Store(Reading, Steps):
         return self._answer(_library.store.cindrolf_store_write_scores, Step.WRITE, client, *given)
 
     def take_all(self, asked: Iterable[Asked]) -> List[Union[Answer, Refused]]:
-        """Takes steps one after the other as one request: all of them are stored, or none, with one wait for the disk. Gives for each its
+        """Takes steps one after the other as one request: all of them are stored, or none, with one wait for the disk. Returns for each its
         answer or its refusal, which is not raised."""
         steps = list(asked)
         # What the library reads has to stay until the call is over.
@@ -137,7 +137,7 @@ class Store(Reading, Steps):
         return [_told(answer, step) for answer, step in zip(answers, steps)]
 
     def run_plan(self, plan: Numbers, budget: Optional[int] = None) -> int:
-        """Takes the steps of a plan up to the budget as one request, and gives how many it took."""
+        """Takes the steps of a plan up to the budget as one request, and returns how many it took."""
         memory, count = words_of(plan, "plan")
         return self._number("cindrolf_store_run_plan", memory, count, count if budget is None else word(budget, "budget"))
 
@@ -158,11 +158,11 @@ class Store(Reading, Steps):
         self._answer(_library.store.cindrolf_store_revoke, None, None, word(client, "client"), word(step, "step"))
 
     def set_rights(self, rights: Numbers) -> None:
-        """Has these 16 words of rights from now on, one for each client that a log can have."""
+        """Sets the rights from now on: 16 words, one for each client that a log can have."""
         self._answer(_library.store.cindrolf_store_set_rights, None, None, *words_of(rights, "rights"))
 
     def snapshot(self) -> Snapshot:
-        """The log as it is now, all of one moment, to read."""
+        """The log of this moment, to read."""
         state, entries = (kind() for kind in self._room)
         marks, rights = ((ctypes.c_uint64 * count)() for count in (_library.MARK_WORDS, _library.RIGHTS_WORDS))
         taken = _library.Taken()
@@ -177,7 +177,7 @@ class Store(Reading, Steps):
 
     def changed(self, timeout: Optional[float] = None) -> bool:
         """Waits until the log has rows that this store has neither read nor stored, up to so many seconds, and says whether it has. After
-        `end_waiting` it waits no longer."""
+        `end_waiting` it does not wait."""
         until = None if timeout is None else time.monotonic() + timeout
         while True:
             left = _SLICE if until is None else min(_SLICE, max(0.0, until - time.monotonic()))
@@ -187,7 +187,7 @@ class Store(Reading, Steps):
                 return False
 
     def changes(self, timeout: Optional[float] = None) -> Iterator[Snapshot]:
-        """A snapshot each time the log has rows that this store has neither read nor stored; it ends where none came for so many seconds."""
+        """A snapshot each time the log has rows that this store has neither read nor stored; it ends if none came for so many seconds."""
         while self.changed(timeout):
             yield self.snapshot()
 
@@ -198,17 +198,17 @@ class Store(Reading, Steps):
         return rows.value if found.value else None
 
     def last_row(self) -> str:
-        """The last row that this store has read or stored, as N:CHAIN. Keep it: `has_row` sees later that the log has not lost it."""
+        """The last row that this store has read or stored, as N:CHAIN. Keep it: `has_row` checks later that the log has not lost it."""
         row = ctypes.create_string_buffer(_library.ROW_BYTES)
         self._call("cindrolf_store_last_row", row, len(row))
         return row.value.decode()
 
     def has_row(self, row: str) -> None:
-        """Sees that the log still has a row and all before it; else it is `Damaged`."""
+        """Checks that the log still has a row and all before it; else it is `Damaged`."""
         self._call("cindrolf_store_has_row", _text(row))
 
     def check(self) -> Checked:
-        """Sees that the whole log holds together, by taking each row once more; else it is `Damaged`."""
+        """Checks the whole log, by taking each row once more; if it is inconsistent it is `Damaged`."""
         rows, wrong = ctypes.c_uint64(), ctypes.c_uint64()
         self._call("cindrolf_store_check", ctypes.byref(rows), ctypes.byref(wrong))
         return Checked(rows.value, wrong.value)
@@ -228,11 +228,11 @@ class Store(Reading, Steps):
         self._call("cindrolf_store_set_patience", word(int(min(seconds, 1e12) * 1000), "patience"))
 
     def set_process_name(self, name: str) -> None:
-        """The name under which rows are stored from now on, for people to read."""
+        """The name with which rows are stored from now on, for people to read."""
         self._call("cindrolf_store_set_process_name", _text(name))
 
     def keep_witness(self, file: Address) -> None:
-        """From now on keeps the last row in this file. A log that has lost the row that the file tells of is `Damaged`."""
+        """From now on keeps the last row in this file. A log that has lost the row in the file is `Damaged`."""
         self._call("cindrolf_store_keep_witness", _text(os.fspath(file)))
 
 
@@ -261,13 +261,13 @@ def _opened(function: Callable[..., int], address: Address, *arguments: Any) -> 
 
 
 def open(address: Address, read_only: bool = False) -> Store:
-    """Opens a log: a file, or ``postgresql://HOST/DATABASE/LOG`` on a server. One that is not there is `Missing`."""
+    """Opens a log: a file, or ``postgresql://HOST/DATABASE/LOG`` on a server. If there is none, it is `Missing`."""
     functions = _library.store
     return _opened(functions.cindrolf_store_open_read_only if read_only else functions.cindrolf_store_open, address)
 
 
 def create(address: Address, clients: int, small: bool = False) -> Store:
-    """Makes a fresh log for 1 to 16 clients, of which client 0 is the named leader. One that is there already `Exists`."""
+    """Makes a fresh log for 1 to 16 clients, of which client 0 is the named leader. If there is one already, it `Exists`."""
     if not 1 <= word(clients, "clients") <= 16:
         raise Refused(_CLIENT_COUNT)
     count = _library.SMALL_ENTRY_WORDS if small else _library.ENTRY_WORDS
@@ -282,7 +282,7 @@ _ending = False
 
 
 def end_waiting() -> None:
-    """Has no call of this process wait longer than a second from now on: it is to end. A handler of signals may call it."""
+    """From now on no call of this process waits longer than a second: use it before the process ends. A signal handler may call it."""
     global _ending
     _ending = True
     _library.store.cindrolf_store_end_waiting()

@@ -22,7 +22,7 @@ SCORE_LIMIT = 372
 
 
 class Step(enum.IntEnum):
-    """The steps by which a client changes a log, by their numbers."""
+    """The steps with which a client changes a log, by their numbers."""
 
     NAME = 0
     BECOME = 1
@@ -48,7 +48,7 @@ ALL_RIGHTS = sum(step.right for step in Step)
 
 
 class Kind(enum.IntEnum):
-    """What a batch takes beside the ten steps, by its numbers."""
+    """What a batch takes in addition to the ten steps, by its numbers."""
 
     WRITE_SCORES = 10
     SET_MARK = 11
@@ -81,13 +81,13 @@ class Status(enum.IntEnum):
 
     @property
     def text(self) -> str:
-        """What it says, and what to do."""
+        """What it means, and what to do."""
         text: bytes = _library.store.cindrolf_store_status_text(self)
         return text.decode()
 
 
 class Answer(NamedTuple):
-    """What a step that was not refused answers. Its text is that of a session's transcript, as ``entry 0 place 0``."""
+    """What a step that was not refused answers. Its text is that of a session's transcript, such as ``entry 0 place 0``."""
 
     #: The answer as the library gives it.
     number: int
@@ -156,7 +156,7 @@ def step_word(step: int, client: int, value: int = 0) -> int:
 
 
 def word(number: int, what: str) -> int:
-    """A number for the library: ctypes alone would cut it to 64 bits unseen."""
+    """A number for the library: ctypes alone would silently cut it to 64 bits."""
     if not isinstance(number, int):
         raise TypeError(f"{what} is a number, not {type(number).__name__}")
     if not 0 <= number <= _WORD_LIMIT:
@@ -182,7 +182,7 @@ Numbers = Any
 
 
 def _buffer(numbers: Numbers, formats: str, what: str) -> Tuple[Any, int]:
-    """The numbers as memory, which is copied at once where they are memory already, and how many there are."""
+    """The numbers as memory, copied at once if they are memory already, and how many there are."""
     code = formats[0]
     try:
         given = memoryview(numbers)

@@ -1,4 +1,4 @@
-"""A log in memory: steps, refusals, marks, rights, plans, words, and numbers that are none."""
+"""A log in memory: steps, refusals, marks, rights, plans, words, and wrong numbers."""
 
 import array
 import ctypes

@@ -1,4 +1,4 @@
-"""A log on a server: the same steps, a handover, and a request of which nobody knows. tests/languages starts the server."""
+"""A log on a server: the same steps, a handover, and a request whose result is unknown. tests/languages starts the server."""
 
 import os
 import sys

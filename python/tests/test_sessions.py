@@ -1,4 +1,4 @@
-"""Every session input of the repository, through Python, against the model's expected outputs."""
+"""Every session input of the repository, through Python, compared with the model's expected outputs."""
 
 import contextlib
 import re

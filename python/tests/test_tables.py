@@ -1,4 +1,4 @@
-"""What Python says once more, against the headers: functions, numbers and names; and that the sources are of Python 3.9."""
+"""What Python repeats from the headers: functions, numbers and names; and that the sources are valid in Python 3.9."""
 
 import ast
 import os
