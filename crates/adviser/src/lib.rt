@@ -1,4 +1,4 @@
-// The adviser: the next step of one client, from both lent buffers, which are only read.
+// The adviser: the next step of one client, from both buffers, which are only read.
 pub mod table;
 
 use chain::advice::Advice;

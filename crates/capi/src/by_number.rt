@@ -1,4 +1,4 @@
-// A step by its number: one function for all kinds, under the rights that are lent or under all.
+// A step by its number: one function for all kinds, under the rights that are passed or under all.
 ghost use Rattle.chain.specs.Operations.{buffers};
 ghost use Rattle.chain.specs.Plans.{numberedStep};
 ghost use Rattle.capi.specs.Calls.{TakeCall, allOf};

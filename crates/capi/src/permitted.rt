@@ -1,4 +1,4 @@
-// The steps, each under the rights that are lent with it.
+// The steps, each under the rights that are passed with it.
 use dispatch::Step;
 ghost use Rattle.chain.specs.Operations.{buffers};
 ghost use Rattle.chain.specs.Steps as kinds;

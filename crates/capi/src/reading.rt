@@ -1,4 +1,4 @@
-// The two readers. No slice can be handed back, so read ledger says where in the caller's entry buffer its part lies.
+// The two readers. They cannot return a slice, so read ledger says where in the caller's entry buffer its part is.
 use chain::answer::Answer;
 use chain::answer::ChainAnswer;
 use records::numbers::LedgerNumber;

@@ -1,4 +1,4 @@
-// Words rearranged into bytes for storage, and restored. No log is looked at.
+// Words rearranged into bytes for storage, and restored. They need not be a log.
 ghost use Rattle.capi.specs.StorageCalls.{RearrangeCall, RestoreCall};
 
 #[no_mangle]

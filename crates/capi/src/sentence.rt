@@ -1,4 +1,4 @@
-// A refusal in words, and what a sentence says. No log is looked at.
+// A refusal in words, and what a sentence says. It uses no log.
 use chain::answer::Answer;
 use sentences::answer::SentenceAnswer;
 use sentences::answer::SentenceRead;

@@ -1,4 +1,4 @@
-// The number of the interface. It goes up with every change that a caller has to follow.
+// The number of the interface. It increases with every change that a caller has to follow.
 ghost use mathlib.Core.Path.{_≡_};
 ghost use Rattle.capi.specs.Calls.{interfaceVersion};
 

@@ -1,1 +1,1 @@
-// Tests of numbers, and lists of checks in their order. Nothing runs here: the definitions and laws are in specs/.
+// Tests of numbers, and lists of checks in their order. This crate has no code: the definitions and laws are in specs/.

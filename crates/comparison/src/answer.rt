@@ -1,4 +1,4 @@
-// The log's answers as the model gives its own: as three numbers.
+// The log's answers as three numbers, like the model's.
 use chain::answer::Answer;
 
 // The kind of an answer, the number of the entry or of the refusal, or else 0, and the entry's place in its ledger, or else 0.

@@ -1,4 +1,4 @@
-// How far the comparison has come and what differs first.
+// The progress of the comparison, and the first difference.
 use model::memory::COUNTS;
 use model::memory::FOUND;
 use model::memory::Model;

@@ -1,4 +1,4 @@
-// A history on the model beside the log: its fresh start and its steps, each after the log has taken it.
+// A history on the model: its fresh start and its steps, each after the log has taken it.
 use crate::answer::Said;
 use crate::buffers::Entries;
 use crate::buffers::State;

@@ -1,4 +1,4 @@
-// A session's input read on a file descriptor, and what is printed of it written to standard output.
+// Reads a session's input on a file descriptor, and writes its product to standard output.
 use libc::STDOUT_FILENO;
 use limits::INPUT_LIMIT;
 use limits::RUN_TOTAL_LIMIT;

@@ -1,4 +1,4 @@
-// The log that is held against the model: one step of it, by clients that have all rights.
+// The log that is compared with the model: one step of it, by clients that have all rights.
 use chain::answer::Answer;
 use comparison::buffers::Entries;
 use comparison::buffers::State;

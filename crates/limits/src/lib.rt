@@ -1,4 +1,4 @@
-// The limits of the log and of its programs. A constant whose name ends in LIMIT is the most that is taken: it is itself within the limit.
+// The limits of the log and of its programs. A constant whose name ends in LIMIT is the largest value that is accepted.
 
 // Clients that share a log.
 pub const CLIENT_LIMIT: u64 = 16;

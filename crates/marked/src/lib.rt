@@ -1,1 +1,1 @@
-// The reference's example words and answers, proved over the definitions. Nothing runs here: the table is in specs/.
+// The reference's example words and answers, proved over the definitions. This crate has no code: the table is in specs/.

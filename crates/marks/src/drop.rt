@@ -1,4 +1,4 @@
-// Drop: the marks behind it move up, so that no gap is left.
+// Drop: the marks after it move up, so that no gap is left.
 use crate::pairs::LENGTH;
 use chain::answer::Answer;
 use chain::answer::Verdict;

@@ -1,4 +1,4 @@
-// Whether marks are well formed: kept marks first, each with a count that the log has and a name of its own, and then zero pairs.
+// Whether marks are well formed: kept marks first, each with a count up to the log's and a different name, and then zero pairs.
 use crate::pairs::PAIRS;
 ghost use mathlib.Core.Path.{_≡_};
 ghost use Prim.Native.Nat.{_≤_};

@@ -1,4 +1,4 @@
-// Marks: named points of a run, in a third lent buffer. They are set, dropped and read at; the log itself is only read.
+// Marks: named points of a run, in a third buffer. A caller sets, drops and reads at them; the log itself is only read.
 pub mod drop;
 mod form;
 mod pairs;

@@ -1,4 +1,4 @@
-// The pairs of the marks buffer: whether a name stands among them, and where.
+// The pairs of the marks buffer: whether a name is among them, and where.
 ghost use mathlib.Core.Path.{_≡_};
 ghost use mathlib.Core.Bool.{true};
 ghost use Prim.Native.Nat.{_≤_, _<_};

@@ -1,4 +1,4 @@
-// What the checks of every operation on marks begin with: the lengths of all three buffers, and then their contents.
+// The first checks of every operation on marks: the lengths of all three buffers, and then their contents.
 use crate::pairs::LENGTH;
 use chain::answer::Refusal;
 use chain::answer::Verdict;

@@ -1,4 +1,4 @@
-// Runs the reference's example session and limits on the log, with a model of LedgerChaining beside it, and prints the answer of each, one to a line.
+// Runs the reference's example session and limits on the log and on a model of LedgerChaining, and prints the answer of each, one to a line.
 mod beside;
 mod examples;
 mod readings;

@@ -1,4 +1,4 @@
-// The chain of the log that an example has left.
+// The chain of the log after an example.
 use crate::say::say;
 use crate::say::say_number;
 use chain::answer::Answer;

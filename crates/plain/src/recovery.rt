@@ -1,4 +1,4 @@
-// A ledger between its fence and its close: what its owner, its closer and another client are told, and what finish refuses.
+// A ledger between its fence and its close: the answers to its owner, its closer and another client, and what finish refuses.
 use crate::beside::asked;
 use crate::beside::begin;
 use crate::beside::take;

@@ -1,4 +1,4 @@
-// A copy of lent words.
+// A copy of words.
 ghost use mathlib.Core.Path.{_≡_};
 ghost use lib.ListN.{length};
 

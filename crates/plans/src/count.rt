@@ -1,4 +1,4 @@
-// What is counted of a step's answer: an entry, or a ledger number, that of a done create.
+// What a run counts of a step's answer: an entry, or the ledger number of a done create.
 use crate::number::Planned;
 use chain::answer::Answer;
 use dispatch::Step;

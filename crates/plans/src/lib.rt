@@ -1,4 +1,4 @@
-// Steps by their numbers, and plans: such steps as words, run up to a budget, and what such a run will use.
+// Steps by their numbers, and plans: such steps as words, run up to a budget, and what a run will use.
 mod copy;
 mod count;
 pub mod forecast;

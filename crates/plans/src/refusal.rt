@@ -1,4 +1,4 @@
-// A refusal is counted; was closed and behind are none.
+// A refusal is counted; was closed and `behind` are none.
 use chain::answer::Answer;
 ghost use mathlib.Core.Path.{_≡_};
 ghost use Rattle.chain.specs.Answers.{isRefused};

@@ -1,4 +1,4 @@
-// What a session's input asks for: how it starts, and each of its lines read as a request and taken as a step. Nothing is printed here.
+// What a session's input asks for: how it starts, and each of its lines read as a request and taken as a step. It prints nothing.
 pub mod line;
 pub mod start;
 

@@ -1,4 +1,4 @@
-// All ten rights of each client below the count, for whoever lends all.
+// All ten rights of each client below the count, for a caller that passes all.
 ghost use mathlib.Core.Path.{_≡_};
 ghost use lib.ListN.{length};
 ghost use Rattle.chain.specs.Buffers.{head};

@@ -1,4 +1,4 @@
-// Whether rights are well formed: no bit beside the ten of a client, and none at all from the client count on.
+// Whether rights are well formed: no bit but the ten of a client, and none at all from the client count on.
 ghost use mathlib.Core.Path.{_≡_};
 ghost use Rattle.checks.specs.Test.{test};
 ghost use Rattle.chain.specs.Rights.{rightsWord, rightsFormed};

@@ -1,4 +1,4 @@
-// The rights of the clients: a lent buffer of 16 words, with a bit for each kind of step. They are read, and made only for whoever lends all.
+// The rights of the clients: a buffer of 16 words, with a bit for each kind of step. They are only read, or made for a caller that passes all.
 pub mod all;
 pub mod form;
 pub mod verdict;

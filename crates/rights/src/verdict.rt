@@ -1,4 +1,4 @@
-// What the checks of every step begin with: the lengths of all three buffers, and then their contents.
+// The first checks of every step: the lengths of all three buffers, and then their contents.
 use chain::answer::Refusal;
 use chain::answer::Verdict;
 use wellformed::Checked;

@@ -1,4 +1,4 @@
-// A refusal in words: one sentence of fixed phrases for step and reason and of the client's number, put into a lent text buffer and read back.
+// A refusal in words: one sentence of fixed phrases for step and reason and of the client's number, written to a text buffer and read back.
 pub mod answer;
 mod begin;
 mod name;

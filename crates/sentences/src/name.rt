@@ -1,4 +1,4 @@
-// The name of a step, put into a text and compared with the beginning of one.
+// The name of a step, written to a text and compared with the beginning of one.
 use crate::begin::phrase_end;
 use text::phrase::put_phrase;
 ghost use mathlib.Core.Path.{_≡_};

@@ -1,4 +1,4 @@
-// A sentence read back: its fixed phrases are compared where they stand in the text, and the client's number is taken from between them.
+// A sentence read back: its fixed phrases are compared in place, and the client's number is read between them.
 use crate::answer::SentenceNumbers;
 use crate::answer::SentenceRead;
 use text::decimal::Numeral;

@@ -1,4 +1,4 @@
-// The reason of a refusal, put into a text and compared with one.
+// The reason of a refusal, written to a text and compared with one.
 use text::phrase::is_phrase;
 use text::phrase::put_phrase;
 ghost use mathlib.Core.Path.{_≡_};

@@ -1,4 +1,4 @@
-// A whole transcript: of no session one line that says why, and of a session its replies and its chain.
+// A whole transcript: the replies and the chain of a session, or one line that says why there is none.
 use records::layout::STATE_LENGTH;
 use requests::start::CAPACITY;
 use requests::start::Start;

@@ -1,1 +1,1 @@
-// The run log as what controllers share. Nothing runs here: what is promised of it is in specs/.
+// The run log that controllers share. This crate has no code: the promises are in specs/.

@@ -1,4 +1,4 @@
-// A controller of a shared log: what it is doing, what it has seen, and what it is to do.
+// A controller of a shared log: its phase, the events, and what to do next.
 
 pub enum Phase {
     // It has nothing to do.

@@ -1,2 +1,2 @@
-// One log for many controllers: the types of a controller's turns. What is defined and promised of them is in specs/; crate turns decides.
+// One log for many controllers: the types of a controller's turns. The definitions and promises are in specs/; the crate turns decides.
 pub mod controller;

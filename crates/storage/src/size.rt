@@ -1,4 +1,4 @@
-// The lengths that are taken: up to 4,096 words, and eight bytes for each.
+// The accepted lengths: up to 4,096 words, and eight bytes for each.
 use limits::REARRANGE_LIMIT;
 ghost use mathlib.Core.Path.{_≡_};
 ghost use Rattle.checks.specs.Test.{test};

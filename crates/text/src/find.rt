@@ -1,4 +1,4 @@
-// Where a byte stands first.
+// The first place of a byte.
 ghost use mathlib.Core.Path.{_≡_};
 ghost use Prim.Native.Nat.{_+_, _≤_};
 ghost use lib.ListN.{length, drop};

@@ -1,4 +1,4 @@
-// What a function answers that puts a whole text into lent bytes.
+// The answer of a function that writes a whole text to the caller's bytes.
 
 // The text's length, or that the lent bytes are fewer than the limit.
 pub enum Printed {

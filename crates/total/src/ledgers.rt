@@ -1,4 +1,4 @@
-// The listed ledgers, in the order of the list: a line for each. The list and the sums are answers of the log's own operations.
+// The listed ledgers, in the order of the list: a line for each. The list and the sums come from the log's own operations.
 use chain::answer::PlaceAnswer;
 use records::numbers::LedgerNumber;
 use records::numbers::ListPlace;

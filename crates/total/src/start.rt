@@ -1,4 +1,4 @@
-// The whole output: of no session one line that says why, and of a session its listed ledgers, their total, and that rounded.
+// The whole output: the listed ledgers of a session, their total and the rounded total, or one line that says why there is no session.
 use records::layout::STATE_LENGTH;
 use requests::start::CAPACITY;
 use requests::start::Start;

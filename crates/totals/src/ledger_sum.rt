@@ -1,4 +1,4 @@
-// The sum of a ledger: of the words that read ledger hands back.
+// The sum of a ledger: of the words that read ledger returns.
 use crate::answer::LedgerSum;
 use crate::answer::SumAnswer;
 use chain::answer::Answer;

@@ -1,4 +1,4 @@
-// What a controller of a shared log does next: pure decisions, which the drivers of the engines call. A driver does all that is read or written.
+// What a controller of a shared log does next: pure decisions, which the drivers of the engines call. A driver does all reading and writing.
 pub mod id;
 pub mod number;
 

@@ -1,4 +1,4 @@
-// The phases, what is seen, and the acts as numbers, since no enum crosses the C boundary.
+// The phases, the events and the acts as numbers, since no enum crosses the C boundary.
 use sharing::controller::Act;
 use sharing::controller::Phase;
 use sharing::controller::Seen;

@@ -1,4 +1,4 @@
-// The first window of the chain reading whose values go over a limit. Neither the reading nor a part of it is copied.
+// The first window of the chain reading whose values add up to more than a limit. Neither the reading nor a part of it is copied.
 mod cursor;
 mod walk;
 
