@@ -228,7 +228,7 @@ impl Words {
         let text = self.words.next().ok_or("LIMIT is missing")?;
         let limit = session::parts(text.as_bytes());
         limit.ok_or(format!(
-            "LIMIT is a number of errors in digits, with a point and up to twelve decimals, as 0.010; at most {}; not '{}'",
+            "LIMIT is a number of errors in digits, with a point and up to twelve decimals, such as 0.010; at most {}; not '{}'",
             session::exact(u64::MAX),
             text.display()
         ))
@@ -300,7 +300,7 @@ impl Words {
     fn request(&mut self) -> Result<u64, String> {
         let text = self.next("REQUEST")?;
         let request = session::number(text.as_bytes(), u64::MAX);
-        request.ok_or(format!("REQUEST is an id as the message has it, not '{}'", text.display()))
+        request.ok_or(format!("REQUEST is an id from a message, not '{}'", text.display()))
     }
 
     fn rest(&mut self) -> Vec<Vec<u8>> {

@@ -159,7 +159,7 @@ fn files_that_are_no_log() {
     let folder = Folder::new();
     let text = "B 0\n".repeat(500);
     fs::write(folder.path("text"), &text).unwrap();
-    all_fail(&folder, "text", "it is no run log of this version: it is no file of SQLite");
+    all_fail(&folder, "text", "it is no run log of this version: it is no SQLite file");
     fs::create_dir(folder.path("folder")).unwrap();
     all_fail(&folder, "folder", "it is no run log of this version: it is a folder");
     fs::write(folder.path("empty"), "").unwrap();

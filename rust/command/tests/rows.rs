@@ -94,7 +94,7 @@ fn a_witness() {
     assert_eq!(step("W 0 8").output, "1 entry 1 place 1\n");
     fs::rename(folder.path("backup.log"), folder.path("run.log")).unwrap();
     let lost = step("W 0 9");
-    let said = "cindrolf: run.log: the log is not the one that the witness was told of: it ends at row 4, and the rows up \
+    let said = "cindrolf: run.log: the log is not the one that the witness knows: it ends at row 4, and the rows up \
                 to 6 are missing\n";
     assert_eq!((lost.status, lost.output.as_str(), lost.errors.as_str()), (Some(1), "", said));
     assert_eq!(folder.checked("run.log"), "ok, 4 rows");

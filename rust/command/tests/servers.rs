@@ -105,7 +105,7 @@ fn addresses() {
         for args in [&["show", address][..], &["create", address, "2"], &["step", address, "B 0"], &["total", address]]
         {
             let said = folder.failure(1, args);
-            assert!(said.starts_with(&format!("cindrolf: {address}: the address is none of a log: ")), "{said}");
+            assert!(said.starts_with(&format!("cindrolf: {address}: this is no address of a log: ")), "{said}");
             assert!(said.contains(why), "{said}");
         }
     }

@@ -74,7 +74,7 @@ fn limits_that_are_none() {
     ] {
         let said = folder.failure(2, &["window", "run.log", "2", limit]);
         let first = format!(
-            "cindrolf: LIMIT is a number of errors in digits, with a point and up to twelve decimals, as 0.010; \
+            "cindrolf: LIMIT is a number of errors in digits, with a point and up to twelve decimals, such as 0.010; \
              at most 18446744.073709551615; not '{limit}'\nusage: cindrolf window "
         );
         assert!(said.starts_with(&first), "{said}");

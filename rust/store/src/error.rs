@@ -52,7 +52,7 @@ pub enum Error {
     },
     /// The step is stored, and its row could not be written to the witness file. This is why.
     Witness(String),
-    /// The log has lost rows that the witness was told of, or is another one. This is where.
+    /// The log has lost rows that the witness knows, or is another one. This is where.
     NotWitnessed(String),
     /// The store was opened in another process, and this one is forked from that. It has to open the file itself.
     Forked,
@@ -75,7 +75,7 @@ pub enum Error {
     /// The server's rows are not those that this store has read: they were lost, or the log was put back from a copy. The
     /// store does nothing any more; open the log again.
     OtherHistory,
-    /// The store was opened to read only.
+    /// The store was opened only to read.
     ReadOnly,
     /// A file could not be read or written. This is why.
     File(String),
@@ -135,7 +135,7 @@ impl Error {
 impl From<Fault> for Error {
     fn from(fault: Fault) -> Self {
         match fault.primary() {
-            sqlite::NOTADB => Error::NoLog("it is no file of SQLite".into()),
+            sqlite::NOTADB => Error::NoLog("it is no SQLite file".into()),
             sqlite::CORRUPT => Error::Damaged(format!("SQLite finds that {}", fault.message)),
             sqlite::TOOBIG => Error::Damaged("one of its values is larger than any of a log".into()),
             _ => Error::Engine { stored: Stored::No, fault },
@@ -182,10 +182,10 @@ impl fmt::Display for Error {
             Error::UpToDate => f.write_str("it is of this version already: 'cindrolf copy' makes a copy of it"),
             Error::TooLong { what, limit } => write!(f, "{what} has at most {limit} bytes"),
             Error::Witness(why) => write!(f, "the step is stored, and the witness file cannot be written: {why}"),
-            Error::NotWitnessed(why) => write!(f, "the log is not the one that the witness was told of: {why}"),
+            Error::NotWitnessed(why) => write!(f, "the log is not the one that the witness knows: {why}"),
             Error::Forked => f.write_str("the log was opened before this process was forked; open it here as well"),
             Error::Replaced => f.write_str("the file was removed or replaced since it was opened"),
-            Error::Address(why) => write!(f, "the address is none of a log: {why}"),
+            Error::Address(why) => write!(f, "this is no address of a log: {why}"),
             Error::Unreachable(why) => f.write_str(why),
             Error::Forbidden(why) => f.write_str(why),
             Error::Unknown { request: 0, why } => {
@@ -195,7 +195,7 @@ impl fmt::Display for Error {
                 write!(f, "it is not known whether request {request} is stored: {why}")
             }
             Error::OtherHistory => f.write_str("the server's rows are not those that were read: some were lost, or put back"),
-            Error::ReadOnly => f.write_str("the log was opened to read only"),
+            Error::ReadOnly => f.write_str("the log was opened only to read"),
             Error::File(why) => f.write_str(why),
             Error::Engine { stored, fault } => {
                 let stored = match stored {

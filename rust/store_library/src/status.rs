@@ -50,11 +50,11 @@ statuses! {
     /// Another process has the lock.
     Busy, "BUSY", c"another process held the lock for too long, and nothing is stored: try again";
     /// There is no room for a row.
-    Full, "FULL", c"the log has no room for a further row: go on with another log";
+    Full, "FULL", c"the log has no room for another row: go on with another log";
     /// The server does not let this user do it.
     Forbidden, "FORBIDDEN", c"the server forbids it to this user, and nothing is stored";
     /// The log is only read.
-    ReadOnly, "READ_ONLY", c"the log was opened to read only, or is of an earlier version";
+    ReadOnly, "READ_ONLY", c"the log was opened only to read, or is of an earlier version";
     /// There is no log.
     Missing, "MISSING", c"there is no such log: create it";
     /// There is a log already.
@@ -66,9 +66,9 @@ statuses! {
     /// The caller's mistake.
     BadArgument, "BAD_ARGUMENT", c"an argument is wrong, and nothing was done: see the message";
     /// No handle.
-    BadHandle, "BAD_HANDLE", c"the handle is null, closed, or none of this process";
+    BadHandle, "BAD_HANDLE", c"the handle is null, closed, or not of this process";
     /// Another thread uses the handle.
-    InUse, "IN_USE", c"another call uses the handle just now, and nothing was done: open a handle for each thread";
+    InUse, "IN_USE", c"another call is using the handle, and nothing was done: open a handle for each thread";
     /// A mistake of this library.
     Internal, "INTERNAL", c"this library has a fault: close the handle, read the log, and report it";
 }

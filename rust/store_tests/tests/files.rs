@@ -66,7 +66,7 @@ fn no_logs() {
     assert_eq!(Store::open(room.folder()).err(), Some(Error::NoLog("it is a folder".into())));
     assert_eq!(Store::create(room.folder(), 1, Capacity::Large).err(), Some(Error::Exists));
     fs::write(&file, "a text that is no database, and long enough to have the header of one".repeat(9)).unwrap();
-    assert_eq!(refused(&file), Err(Error::NoLog("it is no file of SQLite".into())));
+    assert_eq!(refused(&file), Err(Error::NoLog("it is no SQLite file".into())));
     assert_eq!(Store::create(&file, 1, Capacity::Large).err(), Some(Error::Exists));
     let other = room.file("other.db");
     Database::open(&other, Mode::Create, PATIENCE).unwrap().execute("CREATE TABLE t (x)").unwrap();

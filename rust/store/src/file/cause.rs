@@ -51,7 +51,7 @@ fn obstacle(path: &Path) -> Option<String> {
         let (owner, me) = (file.uid(), account());
         (!may_read_and_write(&beside)).then(|| {
             let name = beside.display();
-            format!("{name} belongs to account {owner}, and account {me} may not write it: give it back by chown")
+            format!("{name} belongs to account {owner}, and account {me} may not write it: give it back with chown")
         })
     })
 }
