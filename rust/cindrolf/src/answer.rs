@@ -75,8 +75,8 @@ pub enum Answer {
 }
 
 impl Answer {
-    /// Its number, by which the library gives it: done, was closed and behind are 0 to 2, and an entry is 2^32 + 65,536
-    /// times its number + its place.
+    /// Its number in the library: done, was closed and `behind` are 0 to 2, and an entry is 2^32 + 65,536 times its
+    /// number + its place.
     pub const fn number(self) -> u64 {
         match self {
             Answer::Done => DONE,
@@ -157,7 +157,7 @@ const ENTRY: u64 = 1 << 32;
 /// From the adviser: there is no step to take.
 const NO_ADVICE: u64 = 15;
 
-/// What an entry's number counts for in an answer; its place in its ledger stands below.
+/// The unit of an entry's number in an answer; its place in its ledger is below it.
 const NUMBER_UNIT: u64 = 1 << 16;
 
 /// The error in a number that isn't one of the operation's own answers.

@@ -349,12 +349,12 @@ macro_rules! on_marks {
 }
 
 on_marks! {
-    /// Keeps a mark of this name at the log's entry count, behind the marks that are kept.
+    /// Keeps a mark of this name at the log's entry count, after the marks that are kept.
     set_mark, cindrolf_mark_set
 }
 
 on_marks! {
-    /// Drops the mark of this name. Those behind it move up.
+    /// Drops the mark of this name. Those after it move up.
     drop_mark, cindrolf_mark_drop
 }
 

@@ -21,7 +21,7 @@ use crate::{
 /// # Ok::<(), cindrolf::Error>(())
 /// ```
 ///
-/// A behind can't be dropped unseen. This compiles:
+/// You cannot overlook a `behind`. This compiles:
 ///
 /// ```
 /// #![deny(unused_must_use)]
@@ -261,13 +261,13 @@ impl<'a> LogRef<'a> {
         calls::first_window(self.state, self.entries, length, limit)
     }
 
-    /// Keeps a mark of this name at the log's entry count, behind the marks that are kept. The marks buffer has
+    /// Keeps a mark of this name at the log's entry count, after the marks that are kept. The marks buffer has
     /// [`MARK_WORDS`](crate::MARK_WORDS) words; of any other a refusal says so.
     pub fn set_mark(&self, marks: &mut [u64], name: MarkName) -> Result<(), Error> {
         calls::set_mark(self.state, self.entries, marks, name)
     }
 
-    /// Drops the mark of this name. Those behind it move up.
+    /// Drops the mark of this name. Those after it move up.
     pub fn drop_mark(&self, marks: &mut [u64], name: MarkName) -> Result<(), Error> {
         calls::drop_mark(self.state, self.entries, marks, name)
     }
@@ -375,14 +375,14 @@ macro_rules! operations {
                 calls::fetch(&mut self.state, &mut self.entries, client)
             }
 
-            /// The client fences the ledger that it fetched, so that nobody writes to it. It finishes it next, creates
-            /// one when it was closed already, or fetches again when it is behind.
+            /// The client fences the ledger that it fetched, so that no client can write to it. It finishes it next,
+            /// creates one if it was closed already, or fetches again after `behind`.
             pub fn close_last(&mut self, client: u64) -> Result<CloseLast, Error> {
                 calls::close_last(&mut self.state, &mut self.entries, client)
             }
 
             /// The client closes the ledger that it, or another before it, has fenced. It creates one next, or fetches
-            /// again when it is behind.
+            /// again after `behind`.
             pub fn finish(&mut self, client: u64) -> Result<Finish, Error> {
                 calls::finish(&mut self.state, &mut self.entries, client)
             }
@@ -392,33 +392,32 @@ macro_rules! operations {
                 calls::create(&mut self.state, &mut self.entries, client)
             }
 
-            /// The client appends its new ledger to the list, and may write. When it is behind it no longer leads.
+            /// The client appends its new ledger to the list, and may write. After `behind` it no longer leads.
             pub fn append(&mut self, client: u64) -> Result<Progress, Error> {
                 calls::append(&mut self.state, &mut self.entries, client)
             }
 
-            /// The client adds an entry to its ledger, and is answered the entry's number and its place in that
-            /// ledger.
+            /// The client adds an entry to its ledger. The answer is the entry's number and its place in that ledger.
             pub fn write(&mut self, client: u64, value: u64) -> Result<Position, Error> {
                 calls::write(&mut self.state, &mut self.entries, client, value)
             }
 
-            /// The client adds an entry to its ledger whose value is the sum of the parts of these scores, and is
-            /// answered as by [`write`](Self::write). There are 1 to [`SCORES_LIMIT`](crate::SCORES_LIMIT) scores, none
-            /// above [`SCORE_LIMIT`](crate::SCORE_LIMIT); of any others a refusal says so.
+            /// The client adds an entry to its ledger whose value is the sum of the parts of these scores, and gets the
+            /// answer of [`write`](Self::write). Pass 1 to [`SCORES_LIMIT`](crate::SCORES_LIMIT) scores, none above
+            /// [`SCORE_LIMIT`](crate::SCORE_LIMIT); any others are refused.
             pub fn write_scores(&mut self, client: u64, scores: &[u16]) -> Result<Position, Error> {
                 calls::write_scores(&mut self.state, &mut self.entries, client, scores)
             }
 
-            /// The client closes its own ledger, which may be empty, without a fence. It creates one next. When it is
-            /// behind it no longer leads.
+            /// The client closes its own ledger, which may be empty, without a fence. It creates one next. After
+            /// `behind` it no longer leads.
             pub fn close_own(&mut self, client: u64) -> Result<Progress, Error> {
                 calls::close_own(&mut self.state, &mut self.entries, client)
             }
 
-            /// Takes the steps of a plan one after the other under these rights, up to the budget, and answers how many it
+            /// Takes the steps of a plan one after the other under these rights, up to the budget, and returns how many it
             /// took: the smaller of the budget and the plan's length. A refused step counts, and the next one is taken.
-            /// Both buffers end as after the same steps made singly [`under`](Self::under) these rights.
+            /// Both buffers end as after the same steps taken one by one [`under`](Self::under) these rights.
             pub fn run_plan(&mut self, rights: &Rights, plan: &[StepWord], budget: u64) -> u64 {
                 calls::run_plan(&mut self.state, &mut self.entries, rights.words(), StepWord::words(plan), budget)
             }
@@ -483,13 +482,13 @@ macro_rules! operations {
                 self.as_ref().first_window(length, limit)
             }
 
-            /// Keeps a mark of this name at the log's entry count, behind the marks that are kept. The marks buffer has
+            /// Keeps a mark of this name at the log's entry count, after the marks that are kept. The marks buffer has
             /// [`MARK_WORDS`](crate::MARK_WORDS) words; of any other a refusal says so.
             pub fn set_mark(&self, marks: &mut [u64], name: MarkName) -> Result<(), Error> {
                 self.as_ref().set_mark(marks, name)
             }
 
-            /// Drops the mark of this name. Those behind it move up.
+            /// Drops the mark of this name. Those after it move up.
             pub fn drop_mark(&self, marks: &mut [u64], name: MarkName) -> Result<(), Error> {
                 self.as_ref().drop_mark(marks, name)
             }

@@ -46,7 +46,7 @@ impl StepWord {
         (self.0 >> 52) & CLIENT_NUMBER_LIMIT
     }
 
-    /// A plan's words, to keep, to send or to lend to [`calls`](crate::calls).
+    /// A plan's words, to keep, to send or to pass to [`calls`](crate::calls).
     ///
     /// ```
     /// use cindrolf::{Error, Step, StepWord};
@@ -76,7 +76,7 @@ pub struct Forecast {
     pub entries: u64,
     /// How many ledger numbers: creates that are done.
     pub ledgers: u64,
-    /// How many of its steps are refused. Was closed and behind are no refusals.
+    /// How many of its steps are refused. Was closed and `behind` are no refusals.
     pub refusals: u64,
 }
 

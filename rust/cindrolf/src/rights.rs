@@ -21,10 +21,10 @@ impl Kind {
 /// All ten rights, as a client's word.
 const TEN: u64 = 0xFFC0_0000_0000_0000;
 
-/// Who may take which step: a word for each client, which a step reads and never changes.
+/// Which client may take which step: a word for each client, which a step reads and never changes.
 ///
-/// A step under rights is refused where its client lacks the right to it. The log does not keep them: the caller does,
-/// and lends them with each step.
+/// A step under rights is refused if its client lacks the right to it. The log does not keep rights: the caller does,
+/// and passes them with each step.
 ///
 /// A guest instrument that leads may go on, and is not named again:
 ///
@@ -93,7 +93,7 @@ impl Rights {
         Rights(words)
     }
 
-    /// The words, client by client, to keep or to lend to [`calls`](crate::calls).
+    /// The words, client by client, to keep or to pass to [`calls`](crate::calls).
     pub const fn words(&self) -> &[u64; RIGHTS_WORDS] {
         &self.0
     }

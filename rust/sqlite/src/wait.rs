@@ -20,8 +20,8 @@ const LAST: Duration = Duration::from_secs(1);
 /// Whether the process is to end.
 static ENDING: AtomicBool = AtomicBool::new(false);
 
-/// Has no call of this process wait longer than a second for the lock of another from now on, whatever its patience: the
-/// process is to end. A handler of signals may call it.
+/// From now on no call of this process waits longer than a second for the lock of another, whatever its patience: use
+/// it before the process ends. A signal handler may call it.
 pub fn end_waiting() {
     ENDING.store(true, Ordering::Relaxed);
 }

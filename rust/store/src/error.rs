@@ -9,7 +9,7 @@ use std::fmt;
 pub enum Stored {
     /// It is not.
     No,
-    /// It may be: look before it is taken again. [`Latest::writes_of`](crate::Latest::writes_of) tells of a write.
+    /// It may be: look before you take it again. [`Latest::writes_of`](crate::Latest::writes_of) shows it for a write.
     Unknown,
 }
 
@@ -25,18 +25,18 @@ pub enum Error {
     Missing,
     /// There is a file of this name already.
     Exists,
-    /// The file is of SQLite, and empty: its creation was begun and not finished. `create` finishes it.
+    /// The file is an empty SQLite file: its creation was begun and not finished. `create` finishes it.
     Unfinished,
-    /// No log can be kept in this file: it has a second name, or is on a network's disk, or the SQLite that is linked is
-    /// too old. This is which, and what to do.
+    /// No log can be kept in this file: it has a second name, or is on a network disk, or the linked SQLite is too old.
+    /// The text says which, and what to do.
     Unfit(String),
-    /// The file is no log, or one of another version. This is what it lacks.
+    /// The file is no log, or one of another version. The text says what it lacks.
     NoLog(String),
-    /// The file is a log that does not hold together. This is where.
+    /// The file is an inconsistent log. The text says where.
     Damaged(String),
     /// The journal has as many rows of this client as it takes, or of marks and rights.
     JournalFull(Option<u64>),
-    /// The bytes are no archive, or one that was changed. This is why.
+    /// The bytes are no archive, or one that was changed. The text says why.
     NoArchive(String),
     /// The file is of an earlier version, and is only read: [`Store::upgrade_to`](crate::Store::upgrade_to) makes a new file of
     /// it.
@@ -50,19 +50,19 @@ pub enum Error {
         /// The most bytes that it has.
         limit: usize,
     },
-    /// The step is stored, and its row could not be written to the witness file. This is why.
+    /// The step is stored, and its row could not be written to the witness file. The text says why.
     Witness(String),
-    /// The log has lost rows that the witness knows, or is another one. This is where.
+    /// The log has lost rows that the witness knows, or is another one. The text says where.
     NotWitnessed(String),
     /// The store was opened in another process, and this one is forked from that. It has to open the file itself.
     Forked,
-    /// The file was removed since it was opened, or another has its name. Open it with a store of its own.
+    /// The file was removed since it was opened, or another has its name. Open it with a new store.
     Replaced,
-    /// The address of a log on a server is none. This is why, and what to do.
+    /// The address of a log on a server is wrong. The text says why, and what to do.
     Address(String),
     /// The server cannot be reached, or does not answer. Nothing is stored.
     Unreachable(String),
-    /// The server refuses what it was asked, and nothing is stored. This is what it says.
+    /// The server refuses the request, and nothing is stored. The text is what it says.
     Forbidden(String),
     /// It is not known whether the request of this id is stored, or will be; or whether a log was made on a server.
     Unknown {
@@ -72,12 +72,12 @@ pub enum Error {
         /// What was heard last.
         why: String,
     },
-    /// The server's rows are not those that this store has read: they were lost, or the log was put back from a copy. The
-    /// store does nothing any more; open the log again.
+    /// The server's rows are not those that this store has read: they were lost, or the log was restored from a copy.
+    /// The store does nothing any more; open the log again.
     OtherHistory,
     /// The store was opened only to read.
     ReadOnly,
-    /// A file could not be read or written. This is why.
+    /// A file could not be read or written. The text says why.
     File(String),
     /// SQLite failed.
     Engine {
@@ -98,7 +98,7 @@ impl Error {
         }
     }
 
-    /// The refusal, where the log itself refused.
+    /// The refusal, if the log itself refused.
     pub fn refusal(&self) -> Option<Refusal> {
         match self {
             Error::Refused(refusal) => Some(*refusal),

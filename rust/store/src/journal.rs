@@ -23,7 +23,7 @@ pub struct JournalRow<'a> {
     pub time: Option<i64>,
     /// The process that asked, if that is known.
     pub process: Option<&'a str>,
-    /// What is noted of it.
+    /// Its note.
     pub note: Option<&'a str>,
 }
 

@@ -7,7 +7,7 @@ use cindrolf::{
     client_of,
 };
 
-/// The log as it was when it was last looked at: its words, marks and rights.
+/// The log at the last look: its words, marks and rights.
 #[derive(Clone, Copy)]
 pub struct Latest<'a>(&'a Replica);
 
@@ -31,7 +31,7 @@ impl<'a> Latest<'a> {
         self.0.known.rows
     }
 
-    /// The last of them: what to keep, so that a lost tail is found by [`Store::has_row`](crate::Store::has_row).
+    /// The last of them: keep it, so that [`Store::has_row`](crate::Store::has_row) can find a lost tail.
     pub fn last_row(self) -> LastRow {
         LastRow::of(self.0.known)
     }
@@ -44,7 +44,8 @@ impl<'a> Latest<'a> {
         Ok(output)
     }
 
-    /// How many writes of a client are stored. Who counts its own can tell whether the last one was, after a crash.
+    /// How many writes of a client are stored. A caller that counts its own writes knows after a crash whether the last
+    /// one is stored.
     pub fn writes_of(self, client: u64) -> Result<usize, Error> {
         Ok(self.chain()?.into_iter().filter(|&word| client_of(word) == client).count())
     }

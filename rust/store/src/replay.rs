@@ -36,20 +36,20 @@ impl Replay {
         Ok(Replay(Replica::fresh(view.client_count(), view.capacity())?))
     }
 
-    /// Takes a row, under the rights as they are at it, and says how it is answered.
+    /// Takes a row, under the rights at that row, and returns its answer.
     pub fn take(&mut self, change: &Change) -> Result<Told, Error> {
         self.0.take(change)
     }
 
-    /// The log as the rows have left it.
+    /// The log after these rows.
     pub fn log(&self) -> LogRef<'_> {
         self.0.log()
     }
 }
 
 impl Store {
-    /// As [`each_row`](Store::each_row), from the row of this number on. Who asks for the rows that came since, again and
-    /// again, has only these read.
+    /// As [`each_row`](Store::each_row), from the row of this number on. To follow a log, ask again from the last row:
+    /// only the new rows are read.
     pub fn each_row_from(
         &mut self,
         first: i64,

@@ -25,12 +25,12 @@ pub enum Change {
     SetRights(u64, u64),
 }
 
-/// A step that is asked for, and what people are to read beside it.
+/// A step of a request, and its note for people.
 #[derive(Clone, Debug, PartialEq, Eq)]
 pub struct Asked {
     /// The step.
     pub change: Change,
-    /// A note of up to [`NOTE_LIMIT`](crate::NOTE_LIMIT) bytes, as the name of a read. No decision looks at it.
+    /// A note of up to [`NOTE_LIMIT`](crate::NOTE_LIMIT) bytes, such as the name of a read. No decision uses it.
     pub note: Option<String>,
 }
 

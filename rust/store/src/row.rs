@@ -10,7 +10,7 @@ use std::str::FromStr;
 /// It is written as `N:CHAIN`, a number and 32 hexadecimal digits, and read from that.
 #[derive(Clone, Copy, Debug, PartialEq, Eq)]
 pub struct LastRow {
-    /// Its number; 0 where there is no row but the fresh log.
+    /// Its number; 0 if there is no row but the fresh log.
     pub number: i64,
     /// Its chain value, as a number.
     pub chain: u128,

@@ -21,7 +21,7 @@ use std::path::Path;
 use std::thread::sleep;
 use std::time::{Duration, Instant};
 
-/// How long a call waits for another process, or for the server, unless it is told otherwise.
+/// How long a call waits for another process, or for the server, by default.
 pub const PATIENCE: Duration = Duration::from_secs(10);
 
 /// How long [`Store::changed`] puts off its second look, and at most a later one.
@@ -30,18 +30,18 @@ const LONGEST_PAUSE: Duration = Duration::from_millis(10);
 
 /// A run log in a file or on a server, which other processes may use at the same time.
 ///
-/// Wherever a path is asked for, `postgresql://HOST/DATABASE/LOG` is a log on a server, and anything else is a file.
+/// As a path, `postgresql://HOST/DATABASE/LOG` is a log on a server, and anything else is a file.
 ///
-/// Each call that changes the log is one request, and gives its answer only when that is on the disk. A refusal stores
-/// nothing. See the [crate](crate) for an example.
+/// Each call that changes the log is one request, and returns its answer only when the request is on the disk. A
+/// refusal stores nothing. See the [crate](crate) for an example.
 pub struct Store {
     kept: Box<dyn Kept>,
     pub(crate) witness: Option<Witness>,
 }
 
 impl Store {
-    /// Makes a fresh log for 1 to 16 clients, of which client 0 is the named leader. A log that is there already is left as
-    /// it is, but for a file whose creation was not finished.
+    /// Makes a fresh log for 1 to 16 clients, of which client 0 is the named leader. An existing log is not changed,
+    /// except a file whose creation was not finished.
     pub fn create(path: impl AsRef<Path>, client_count: u64, capacity: Capacity) -> Result<Store, Error> {
         match Address::parse(path.as_ref())? {
             Address::File(path) => FileStore::create(&path, client_count, capacity).map(Store::of),
@@ -49,8 +49,8 @@ impl Store {
         }
     }
 
-    /// Opens a log, and sees that it holds together. Where another process is about to create its file, this waits for
-    /// that. A file of an earlier version is opened too, to be read.
+    /// Opens a log, and checks that it is consistent. If another process is about to create its file, this waits for
+    /// that. It also opens a file of an earlier version, to read.
     pub fn open(path: impl AsRef<Path>) -> Result<Store, Error> {
         match Address::parse(path.as_ref())? {
             Address::File(path) => FileStore::open(&path).map(Store::of),
@@ -58,8 +58,8 @@ impl Store {
         }
     }
 
-    /// Opens a log to read only: each step is refused by [`Error::ReadOnly`]. It changes no byte of a file. A file that is in
-    /// use has two others beside it, which this may have to make, and leaves to the next process that opens the log to
+    /// Opens a log only to read: each step fails with [`Error::ReadOnly`]. It changes no byte of a file. A file in use
+    /// has two others beside it, which this may have to make; it leaves them to the next process that opens the log to
     /// change it.
     pub fn open_read_only(path: impl AsRef<Path>) -> Result<Store, Error> {
         match Address::parse(path.as_ref())? {
@@ -77,8 +77,8 @@ impl Store {
         self.kept.set_patience(patience);
     }
 
-    /// Under which name rows are stored from now on, in place of the host, the program and the number of this process.
-    /// It is for people, and has up to [`PROCESS_LIMIT`] bytes.
+    /// The name with which rows are stored from now on, in place of the host, the program and the number of this
+    /// process. It is for people, and has up to [`PROCESS_LIMIT`] bytes.
     pub fn set_process_name(&mut self, name: &str) -> Result<(), Error> {
         if name.len() > PROCESS_LIMIT {
             return Err(Error::TooLong { what: "the name of a process", limit: PROCESS_LIMIT });
@@ -97,31 +97,31 @@ impl Store {
         self.kept.latest().map(Latest::new)
     }
 
-    /// The last row that this store has read or stored, without a look at the log: after an answer the row of that, and
-    /// after a refusal the row of which it was decided. None after an error.
+    /// The last row that this store has read or stored, without reading the log: after an answer the row of that
+    /// answer, and after a refusal the row at which it was decided. None after an error.
     pub fn last_row(&self) -> Option<LastRow> {
         self.kept.known().map(LastRow::of)
     }
 
-    /// The answers stored in rows that this store has followed which are not those of the log: what a wrong process has
-    /// stored. They change nothing but what SQL shows; [`check`](Store::check) finds every one of them.
+    /// The stored answers, in rows that this store has followed, that differ from the log's: a wrong process stored
+    /// them. They change only what SQL shows; [`check`](Store::check) finds every one of them.
     pub fn wrong_answers(&self) -> &[WrongAnswer] {
         self.kept.wrong_answers()
     }
 
-    /// Sees that the whole log holds together: of a file, what SQLite checks and the tables and views as they were made;
-    /// and every row, which the library takes once more from the fresh log. It waits for no writer, and none waits for it.
+    /// Checks the whole log: of a file, what SQLite checks and the tables and views as they were made; and every row,
+    /// which the library takes once more from the fresh log. It waits for no writer, and none waits for it.
     pub fn check(&mut self) -> Result<Checked, Error> {
         self.kept.check()
     }
 
-    /// Gives each row of the log, from the first on. The stored answers are as they are: [`check`](Store::check) compares
-    /// them.
+    /// Gives each row of the log, from the first on. It does not compare the stored answers: [`check`](Store::check)
+    /// does.
     pub fn each_row(&mut self, mut each: impl FnMut(JournalRow<'_>) -> Result<(), Error>) -> Result<(), Error> {
         self.each_stored(&mut |row| each(row.shown()))
     }
 
-    /// Gives each row with all that is stored of it.
+    /// Gives each row with everything that is stored with it.
     pub(crate) fn each_stored(&mut self, each: &mut EachRow<'_>) -> Result<(), Error> {
         self.each_stored_from(FIRST_ROW, each)
     }
@@ -130,15 +130,15 @@ impl Store {
         self.kept.each_row(first, each)
     }
 
-    /// The processes that step for each client, of as many clients as are asked for.
+    /// The processes that step for each client, for so many clients.
     pub fn steppers(&mut self, clients: usize) -> Result<Vec<Stepper>, Error> {
         self.kept.steppers(clients)
     }
 
-    /// Sees that the log still has this row, and so every row up to it. One that is shorter, or another log, is damaged.
+    /// Checks that the log still has this row, and so every row up to it. A shorter log, or another one, is damaged.
     ///
-    /// A log whose last rows are gone holds together. Only a caller that has kept the last row finds that: after each
-    /// answer, [`last_row`](Store::last_row) is what to keep.
+    /// A log whose last rows are gone is consistent. Only a caller that has kept the last row finds that: after each
+    /// answer, keep [`last_row`](Store::last_row).
     pub fn has_row(&mut self, row: LastRow) -> Result<(), Error> {
         // Opening and looking see that the chain values go on from each other up to here.
         let rows = self.latest()?.rows();
@@ -153,7 +153,7 @@ impl Store {
         Err(Error::Damaged(format!("row {number} of its journal is another one, or one before it is")))
     }
 
-    /// The row of this number, as it was when it was the last; none where there is no such row.
+    /// The row of this number, as it was when it was the last; none if there is no such row.
     pub fn row(&mut self, number: i64) -> Result<Option<LastRow>, Error> {
         let chain = self.kept.chain_of(number)?;
         Ok(chain.map(|chain| LastRow { number, chain: u128::from_be_bytes(chain) }))
@@ -176,45 +176,45 @@ impl Store {
         }
     }
 
-    /// What became of a request of which [`Error::Unknown`] told: how many rows come before its own, if it is stored. If it
-    /// is not, it may still come, for as long as a message of it is on its way.
+    /// What became of the request of an [`Error::Unknown`]: how many rows come before its own, if it is stored. If it
+    /// is not, it may still come, as long as a message with it is on its way.
     pub fn settle(&mut self, request: u64) -> Result<Option<i64>, Error> {
         self.kept.settle(request)
     }
 
-    /// Takes the rows of a server's log once more that were not audited yet, and has the server keep the answer of each, for
-    /// its views. Gives how many rows are audited then. It needs a role that is admitted as the audit. In a file each row
-    /// has its answer.
+    /// Takes the rows of a server's log that are not yet audited once more, and stores the answer of each on the
+    /// server, for its views. Returns how many rows are then audited. It needs a role that is admitted as the audit. In
+    /// a file each row has its answer.
     pub fn audit(&mut self) -> Result<i64, Error> {
         self.kept.audit()
     }
 
     /// Copies the write-ahead log to the file, and says whether that is all of it: then the file holds every step by
-    /// itself until the next one is stored. A process that reads may stand in the way, and one that holds the lock for
-    /// longer than a tenth of a second. Call it when there is nothing to store for a while, and again where it was not all.
-    /// A server does this by itself.
+    /// itself until the next one is stored. A process that reads may prevent it, and one that holds the lock for longer
+    /// than a tenth of a second. Call it when there is nothing to store for a while, and again if it was not all. A
+    /// server does this by itself.
     pub fn checkpoint(&mut self) -> Result<bool, Error> {
         self.kept.checkpoint()
     }
 
-    /// Closes the log. What this store has stored is copied to the file, unless another process holds the lock just then.
-    /// Where no other process has the log open, its write-ahead log goes, and one file is left. A store that is dropped
-    /// does the same, and cannot tell what failed; no step rests on it.
+    /// Closes the log. What this store has stored is copied to the file, unless another process holds the lock at that
+    /// moment. If no other process has the log open, its write-ahead log is removed, and one file is left. A store that
+    /// is dropped does the same, but cannot report an error; no step depends on it.
     pub fn close(self) -> Result<(), Error> {
         self.kept.close()
     }
 
     /// Writes the log as it is now to a new file, whole or not at all, and on the disk when this returns. Others may
-    /// write meanwhile. It is made under the name with the process's number and `.part` after it, which stays where the
-    /// process is killed. The copy may be read and written by those who may read and write the log.
+    /// write at the same time. It is made under the name with the process's number and `.part` after it, which stays if
+    /// the process is killed. The accounts that may read and write the log may read and write the copy.
     ///
-    /// [`Error::Exists`] and [`Error::File`] are of the copy; any other error is of the log.
+    /// [`Error::Exists`] and [`Error::File`] are about the copy; any other error is about the log.
     ///
-    /// The copy is a single file, and can be read from a disk that cannot be written. It becomes a log that is written
-    /// once a step is taken on it.
+    /// The copy is a single file, and can be read from a read-only disk. It becomes a log in use when a step is taken
+    /// on it.
     ///
-    /// Where `to` is an address, the log is copied to a server, with the same rows, times, processes and notes, all of them
-    /// or none; that is for an administrator of the server's logs.
+    /// If `to` is an address, the log is copied to a server, with the same rows, times, processes and notes, all of
+    /// them or none; only an administrator of the server's logs may do that.
     pub fn copy_to(&mut self, to: impl AsRef<Path>) -> Result<(), Error> {
         let view = self.kept.latest()?.log().view()?;
         let fresh = (view.client_count(), view.capacity());
@@ -227,8 +227,8 @@ impl Store {
         }
     }
 
-    /// Writes a log of the earlier format to a new file with the same rows, whole or not at all, and leaves this one as it
-    /// is. When each row was stored, and by which process, the earlier format does not tell.
+    /// Writes a log of the earlier format to a new file with the same rows, whole or not at all, and does not change
+    /// this one. The earlier format does not say when each row was stored, and by which process.
     pub fn upgrade_to(&mut self, to: impl AsRef<Path>) -> Result<(), Error> {
         self.kept.upgrade_to(to.as_ref())
     }
@@ -246,8 +246,8 @@ impl Store {
         }
     }
 
-    /// Takes these steps one after the other as one request, in one transaction: all of them are stored, or none. Answers
-    /// each; where every one is refused, nothing is stored.
+    /// Takes these steps one after the other as one request, in one transaction: all of them are stored, or none.
+    /// Answers each; if every one is refused, nothing is stored.
     pub fn take_all(&mut self, asked: &[Asked]) -> Result<Vec<Told>, Error> {
         if asked.iter().any(|asked| asked.note.as_ref().is_some_and(|note| note.len() > NOTE_LIMIT)) {
             return Err(Error::TooLong { what: "a note", limit: NOTE_LIMIT });
@@ -255,8 +255,8 @@ impl Store {
         self.ask(&|_| Ok(asked.to_vec()))
     }
 
-    /// Takes the steps of a plan one after the other, up to the budget, as one request, and answers how many it took. A
-    /// refused step counts, and the next one is taken. The log ends as after the same steps taken singly.
+    /// Takes the steps of a plan one after the other, up to the budget, as one request, and returns how many it took. A
+    /// refused step counts, and the next one is taken. The log ends as after the same steps taken one by one.
     pub fn run_plan(&mut self, plan: &[StepWord], budget: u64) -> Result<u64, Error> {
         let length = usize::try_from(budget).map_or(plan.len(), |budget| budget.min(plan.len()));
         let steps = plan[..length].iter().filter_map(|word| Some(Change::Step(word.client(), word.step()?)));
@@ -275,7 +275,7 @@ impl Store {
         self.one(&Change::DropMark(name).into()).map(drop)
     }
 
-    /// Has these rights from now on, for the steps of every process. Those that are not of this log are refused.
+    /// Sets the rights from now on, for the steps of every process. Rights that do not fit this log are refused.
     pub fn set_rights(&mut self, rights: &Rights) -> Result<(), Error> {
         self.each_done(&|replica| {
             replica.fits(rights)?;

@@ -20,8 +20,8 @@ pub(crate) struct Witness {
 }
 
 impl Store {
-    /// From now on keeps the last row in this file, after each answer to a step. A file that is there has to tell of a row
-    /// that the log has: a log that is shorter, or another one, is refused by [`Error::NotWitnessed`].
+    /// From now on keeps the last row in this file, after each answer to a step. An existing file has to name a row
+    /// that the log has: a shorter log, or another one, fails with [`Error::NotWitnessed`].
     ///
     /// Only one store at a time may keep its row in a file.
     pub fn keep_witness(&mut self, path: impl AsRef<Path>) -> Result<(), Error> {
