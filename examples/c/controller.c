@@ -10,13 +10,13 @@ static uint64_t state[CINDROLF_STATE_WORDS];
 static uint64_t entries[CINDROLF_ENTRY_WORDS];
 static uint64_t output[CINDROLF_ENTRY_WORDS];
 
-/* Where the example has no disk to write both buffers to, it prints the step. */
+/* A controller stores both buffers here. The example prints the step instead. */
 static void persist(uint64_t step) {
     static const char *const names[] = {"name", "become", "abdicate", "fetch", "close last", "finish", "create", "append", "write", "close own"};
     printf("%s, ", names[step]);
 }
 
-/* Takes step after step until the read is stored: the answer of its write. Or a refusal; or CINDROLF_NO_STEP, where another is named. */
+/* Takes steps until the read is stored, and returns the answer of its write; or a refusal; or CINDROLF_NO_STEP if another client is named. */
 static uint64_t store(uint64_t client, uint64_t value) {
     for (;;) {
         uint64_t step = cindrolf_advise(LOG, client);
@@ -46,14 +46,14 @@ int main(void) {
     if (cindrolf_version() != CINDROLF_VERSION || cindrolf_fresh(LOG, 2) != CINDROLF_DONE)
         return 1;
     report(0, 201);
-    /* Client 1 takes over and comes as far as fetch; then client 0, which has closed its ledger, appends another. */
+    /* Client 1 takes over up to fetch; then client 0, which has closed its ledger, appends another. */
     cindrolf_close_own(LOG, 0);
     cindrolf_name(LOG, 1);
     cindrolf_become(LOG, 1);
     cindrolf_fetch(LOG, 1);
     cindrolf_create(LOG, 0);
     cindrolf_append(LOG, 0);
-    /* So client 1 is behind at its append, and has to begin again: ten steps, which is the most. */
+    /* So client 1 gets `behind` at its append, and has to begin again: ten steps, which is the most. */
     report(1, 202);
     report(0, 203);
     report(1, UINT64_C(1) << 52);

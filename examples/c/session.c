@@ -13,7 +13,7 @@ static uint64_t state[CINDROLF_STATE_WORDS];
 static uint64_t entries[CINDROLF_ENTRY_WORDS];
 static uint64_t output[CINDROLF_ENTRY_WORDS];
 
-/* A line of the session, and the answer that is expected. */
+/* A line of the session, and the expected answer. */
 struct line {
     char letter;
     uint64_t client;
@@ -86,7 +86,7 @@ static void print_chain(void) {
     printf("\n");
 }
 
-/* The one word of each ledger where it lies, and a ledger that is not there. */
+/* The one word of each ledger in place, and a ledger that does not exist. */
 static void check_ledgers(void) {
     for (uint64_t l = 1; l <= 2; l++) {
         struct cindrolf_ledger_part part = cindrolf_read_ledger(STATE, ENTRIES, l);

@@ -16,7 +16,7 @@ static uint64_t client, state[CINDROLF_STATE_WORDS], entries[CINDROLF_ENTRY_WORD
 static volatile sig_atomic_t ending = 0;
 static int nothing;
 
-/* From now on there is no further read, and no call waits for long. */
+/* From now on there are no more reads, and no call waits for long. */
 static void end(int number) {
     (void)number;
     ending = 1;
@@ -24,7 +24,7 @@ static void end(int number) {
     dup2(nothing, STDIN_FILENO);
 }
 
-/* Ends where a call was not done, and says why. After UNKNOWN, read the log before the same read is given again. */
+/* If a call failed, says why and ends. After UNKNOWN, read the log before you send the same read again. */
 static void must(int status) {
     char why[CINDROLF_STORE_MESSAGE_BYTES];
     if (status == CINDROLF_STORE_OK)
@@ -39,7 +39,7 @@ static uint64_t advised(void) {
     return cindrolf_advise(state, CINDROLF_STATE_WORDS, entries, (size_t)now.entry_words, client);
 }
 
-/* Takes a step. Where another was faster it is refused, and the adviser knows more; but these four stay. */
+/* Takes a step. If another client was faster it is refused, and the adviser knows what to do next; these four refusals are final. */
 static uint64_t take(uint64_t step, uint64_t who, uint64_t value) {
     uint64_t answer = 0;
     char text[CINDROLF_TEXT_BYTES], row[CINDROLF_STORE_ROW_BYTES];
@@ -56,7 +56,7 @@ static uint64_t take(uint64_t step, uint64_t who, uint64_t value) {
     return answer;
 }
 
-/* Takes step after step until the read is stored. While another is named, it waits for that to change. */
+/* Takes steps until the read is stored. While another client is named, it waits for a change. */
 static void write_read(uint64_t value) {
     while (!ending) {
         uint64_t step = advised(), changed;

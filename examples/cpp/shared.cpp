@@ -23,7 +23,7 @@ struct controller {
         return now.advise(client);
     }
 
-    // Takes a step. Where another was faster it is refused, and the adviser knows more; but these four stay.
+    // Takes a step. If another client was faster it is refused, and the adviser knows what to do next; these four refusals are final.
     std::optional<cindrolf::answer> take(step taken, std::uint64_t who, std::uint64_t value = 0) {
         static const std::set<std::uint64_t> stay{CINDROLF_REFUSAL_NO_LEDGER_NUMBER, CINDROLF_REFUSAL_LOG_FULL, CINDROLF_REFUSAL_VALUE_TOO_WIDE,
                                                   CINDROLF_REFUSAL_MISSING_RIGHT};
@@ -37,7 +37,7 @@ struct controller {
         }
     }
 
-    // Takes step after step until the read is stored. While another is named, it waits for that to change.
+    // Takes steps until the read is stored. While another client is named, it waits for a change.
     void write(std::uint64_t value) {
         while (!ending) {
             const auto next = advised();
@@ -69,7 +69,7 @@ int main(int count, char **words) {
         return 2;
     }
     struct sigaction action = {};
-    // From then on there is no further read, and no call waits for long.
+    // From then on there are no more reads, and no call waits for long.
     action.sa_handler = [](int) {
         ending = 1;
         cindrolf::end_waiting();
@@ -88,7 +88,7 @@ int main(int count, char **words) {
         here.hand_over();
         here.log.close();
     } catch (const std::exception &error) {
-        // After cindrolf::unknown, read the log before the same read is given again.
+        // After cindrolf::unknown, read the log before you send the same read again.
         std::cerr << "controller: " << error.what() << '\n';
         return 1;
     }

@@ -12,7 +12,7 @@ ending = False
 
 
 def end(*_):
-    """From now on there is no further read, and no call waits for long."""
+    """From now on there are no more reads, and no call waits for long."""
     global ending
     ending = True
     cindrolf.end_waiting()
@@ -20,7 +20,7 @@ def end(*_):
 
 
 def take(log, step, client, value=0):
-    """Takes a step. Where another was faster it is refused, and the adviser knows more; but these four stay."""
+    """Takes a step. If another client was faster it is refused, and the adviser knows what to do next; these four refusals are final."""
     try:
         return log.take(step, client, value)
     except cindrolf.Refused as refused:
@@ -30,7 +30,7 @@ def take(log, step, client, value=0):
 
 
 def write(log, client, value):
-    """Takes step after step until the read is stored. While another is named, it waits for that to change."""
+    """Takes steps until the read is stored. While another client is named, it waits for a change."""
     while not ending:
         step = log.advise(client)
         if step is None:
@@ -66,5 +66,5 @@ if __name__ == "__main__":
     try:
         main(sys.argv[1], int(sys.argv[2]))
     except cindrolf.Error as error:
-        # After cindrolf.Unknown, read the log before the same read is given again.
+        # After cindrolf.Unknown, read the log before you send the same read again.
         sys.exit(f"controller: {error}")
