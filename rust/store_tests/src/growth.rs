@@ -1,4 +1,4 @@
-//! How cost grows, that of the store beside that of plain writes: tables, panels of a picture, and its file.
+//! How the cost of the store grows, compared with plain writes: tables, panels of a picture, and its file.
 
 use plot::{Line, Panel};
 use std::fmt::Display;

@@ -1,4 +1,4 @@
-//! A log that gets long. Its steps name one client after the other, since a log takes only so many writes.
+//! A log that gets long. Its steps name one client after the other, since a log takes a limited number of writes.
 
 use crate::sides::{BESIDE, STORE, side_at};
 use cindrolf::{Capacity, Step};

@@ -1,4 +1,4 @@
-//! What the disk and the other programs of this computer are like just now.
+//! The state of the disk and the load of this computer.
 
 use crate::scratch::Scratch;
 use std::fs::File;

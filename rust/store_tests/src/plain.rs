@@ -1,4 +1,4 @@
-//! A table of SQLite without a log, to compare with: each row is an INSERT that commits by itself.
+//! An SQLite table without a log, to compare with: each row is an INSERT that commits by itself.
 
 use std::path::Path;
 use std::time::Duration;

@@ -1,5 +1,5 @@
-//! What commands take from their start to their exit: command_times PROGRAM SESSION. In each round every command is called once, so
-//! that what slows the computer slows all of them.
+//! How long commands take from start to exit: command_times PROGRAM SESSION. In each round every command is called
+//! once, so that what slows the computer slows all of them.
 
 use cindrolf::Capacity;
 use std::ffi::{OsStr, OsString};
