@@ -166,7 +166,7 @@ fn a_write_ahead_log_of_another_account() {
     mode(&wal, 0o000);
     as_a_user(|| {
         let error = Store::open(&file).expect_err("a file that cannot be opened").to_string();
-        assert!(error.contains("run.db-wal belongs to account ") && error.contains("by chown"), "{error}");
+        assert!(error.contains("run.db-wal belongs to account ") && error.contains("with chown"), "{error}");
     });
     fs::remove_file(&wal).unwrap();
     fs::create_dir(&wal).unwrap();
