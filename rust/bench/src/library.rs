@@ -1,19 +1,9 @@
-//! An archive of the log as a shared object: each of two has its own functions, though both have the same names.
+//! The functions of one archive that make a log and write to it, to compare two archives.
 
-use std::ffi::{CStr, CString, c_char, c_int, c_void};
+use crate::object::Object;
+use std::ffi::{CStr, c_void};
 use std::mem::transmute;
-use std::os::unix::ffi::OsStrExt;
 use std::path::Path;
-
-// They are in the C library itself.
-unsafe extern "C" {
-    fn dlopen(name: *const c_char, flags: c_int) -> *mut c_void;
-    fn dlsym(object: *mut c_void, name: *const c_char) -> *mut c_void;
-    fn dlerror() -> *const c_char;
-}
-
-/// RTLD_NOW, without RTLD_GLOBAL: nobody else is given this object's functions.
-const NOW: c_int = 2;
 
 /// The numbers of a step: the client's, and of a write the value.
 type Step = unsafe extern "C" fn(*mut u64, usize, *mut u64, usize, u64) -> u64;
@@ -44,27 +34,11 @@ pub const APPEND: &CStr = c"cindrolf_append";
 /// Close own.
 pub const CLOSE_OWN: &CStr = c"cindrolf_close_own";
 
-fn open(path: &Path) -> Result<*mut c_void, String> {
-    let name = CString::new(path.as_os_str().as_bytes()).map_err(|error| error.to_string())?;
-    // Both take C strings, and the object is never closed.
-    let object = unsafe { dlopen(name.as_ptr(), NOW) };
-    if object.is_null() {
-        let why = unsafe { CStr::from_ptr(dlerror()) };
-        return Err(format!("{} can't be loaded: {}", path.display(), why.to_string_lossy()));
-    }
-    Ok(object)
-}
-
 impl Library {
     /// Loads a shared object that was made of an archive.
     pub fn load(path: &Path) -> Result<Self, String> {
-        let object = open(path)?;
-        let find = |name: &CStr| {
-            let found = unsafe { dlsym(object, name.as_ptr()) };
-            (!found.is_null()).then_some(found)
-        };
-        let needed =
-            |name: &CStr| find(name).ok_or(format!("{} has no function {}", path.display(), name.to_string_lossy()));
+        let object = Object::open(path)?;
+        let needed = |name: &CStr| object.needed(name);
         let version = needed(c"cindrolf_version")?;
         let (write, scores) = (needed(c"cindrolf_write")?, needed(c"cindrolf_write_scores")?);
         let steps: Result<Vec<_>, String> = [FRESH, BECOME, FETCH, CREATE, APPEND, CLOSE_OWN]
@@ -77,7 +51,7 @@ impl Library {
                 version: transmute::<*mut c_void, unsafe extern "C" fn() -> u64>(version)(),
                 steps: steps?.into_iter().map(|(name, step)| (name, transmute::<*mut c_void, Step>(step))).collect(),
                 write: transmute::<*mut c_void, Write>(write),
-                write_with: find(c"cindrolf_write_with").map(|with| transmute::<*mut c_void, WriteWith>(with)),
+                write_with: object.find(c"cindrolf_write_with").map(|with| transmute::<*mut c_void, WriteWith>(with)),
                 write_scores: transmute::<*mut c_void, WriteScores>(scores),
             })
         }

@@ -54,13 +54,40 @@ impl Taken {
     }
 }
 
-/// A candidate's times.
-pub struct Times {
+/// A row of the table: the same operation by the library at each placement, and by others.
+pub struct Row<'a> {
+    /// The log that it is on.
+    pub log: &'static str,
+    /// What is done.
+    pub operation: &'static str,
+    /// The library's, at each placement.
+    pub placed: Vec<Candidate<'a>>,
+    /// What is taken away from these, placement by placement; none, or as many.
+    pub less: Vec<Candidate<'a>>,
+    /// The others.
+    pub others: Vec<Candidate<'a>>,
+}
+
+/// What the library took at its placements, in nanoseconds: the least, the middle and the greatest of the medians.
+#[derive(Debug, PartialEq)]
+pub struct Placements {
+    /// At the best placement.
+    pub best: f64,
+    /// At the one in the middle.
+    pub median: f64,
+    /// At the worst placement.
+    pub worst: f64,
+    /// The worst over the best.
+    pub spread: f64,
+}
+
+/// What another took, in nanoseconds, and the library's time at its worst placement over it, taken within each round.
+pub struct Other {
     /// What it is.
     pub name: &'static str,
     /// Nanoseconds for one.
     pub nanoseconds: Spread,
-    /// The first candidate's time divided by this one's, taken within each round.
+    /// The ratio.
     pub ratio: Spread,
 }
 
@@ -98,15 +125,42 @@ pub fn interleaved(mut candidates: Vec<Candidate>, rounds: usize, slice: Duratio
     taken
 }
 
-/// The spread of what was taken over the rounds, and of the ratios within each.
-pub fn compared(taken: &[Taken]) -> Vec<Times> {
-    let ratio = |other: &[f64]| taken[0].nanoseconds.iter().zip(other).map(|(first, other)| first / other).collect();
-    let times = |each: &Taken| Times {
+fn median(taken: &Taken) -> f64 {
+    Spread::of(taken.nanoseconds.clone()).median
+}
+
+/// One's time over another's, within each round.
+fn ratio(one: &Taken, other: &Taken) -> Spread {
+    Spread::of(one.nanoseconds.iter().zip(&other.nanoseconds).map(|(one, other)| one / other).collect())
+}
+
+/// Times a row, all candidates in turn.
+pub fn measured(row: Row, rounds: usize, slice: Duration) -> (Placements, Vec<Other>) {
+    let (count, less) = (row.placed.len(), row.less.len());
+    let mut taken = interleaved(row.placed.into_iter().chain(row.less).chain(row.others).collect(), rounds, slice);
+    let others = taken.split_off(count + less);
+    let less = taken.split_off(count);
+    if !less.is_empty() {
+        taken = taken.into_iter().zip(&less).map(|(taken, less)| taken.less(less)).collect();
+    }
+    summed_up(taken, &others)
+}
+
+fn summed_up(mut placed: Vec<Taken>, others: &[Taken]) -> (Placements, Vec<Other>) {
+    placed.sort_by(|one, other| median(one).total_cmp(&median(other)));
+    let (best, worst) = (&placed[0], &placed[placed.len() - 1]);
+    let placements = Placements {
+        best: median(best),
+        median: median(&placed[placed.len() / 2]),
+        worst: median(worst),
+        spread: median(worst) / median(best),
+    };
+    let other = |each: &Taken| Other {
         name: each.name,
         nanoseconds: Spread::of(each.nanoseconds.clone()),
-        ratio: Spread::of(ratio(&each.nanoseconds)),
+        ratio: ratio(worst, each),
     };
-    taken.iter().map(times).collect()
+    (placements, others.iter().map(other).collect())
 }
 
 #[cfg(test)]
@@ -124,8 +178,11 @@ mod tests {
         let taken = |nanoseconds: &[f64]| Taken { name: "", nanoseconds: nanoseconds.to_vec() };
         let left = taken(&[5.0, 9.0, 7.0]).less(&taken(&[1.0, 5.0, 1.0]));
         assert_eq!(left.nanoseconds, [4.0, 4.0, 6.0]);
-        let times = compared(&[left, taken(&[2.0, 4.0, 1.0])]);
-        assert_eq!(times[1].ratio, Spread { low: 2.0, median: 2.0, high: 6.0 });
+        let placed = vec![left, taken(&[2.0, 2.0, 1.0]), taken(&[3.0, 3.0, 3.0])];
+        let (placements, others) = summed_up(placed, &[taken(&[2.0, 4.0, 1.0])]);
+        assert_eq!(placements, Placements { best: 2.0, median: 3.0, worst: 4.0, spread: 2.0 });
+        assert_eq!(others[0].ratio, Spread { low: 2.0, median: 2.0, high: 6.0 });
+        assert_eq!(others[0].nanoseconds, Spread { low: 2.0, median: 2.0, high: 4.0 });
     }
 
     #[test]

@@ -1,7 +1,6 @@
 //! The sum of a list of scores as plain Rust would have it.
 //!
-//! Both forms come to seven instructions a score, and so does the library's loop. Where the linker put such a loop across
-//! two lines of 64 bytes, it was measured to take up to twice as long: the faster form is the one to compare with.
+//! Both forms come to seven instructions a score. The faster one is the one to compare with.
 
 /// The part of each score.
 pub type Parts = [u64; 373];
