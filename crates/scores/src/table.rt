@@ -1,12 +1,8 @@
 // The part of every score, as a table: for score q the largest whole E with E^40 * 10^q at most 10^480.
 //
 // The numbers are only here; the proof has them from its goal, and one test that the checker computes shows that they follow the rule. A constant
-// array is stored on the stack wherever code names it. So `parts` returns the table once for a list, and `part` takes it by reference; named in the
-// loop it took 160 times as long, on 1,000 scores. Measured on 4,000 scores over the C boundary: 1.05 to 1.06 times the time of a Rust loop over a
-// static table with the same test of each score, where at most 1.05 was wanted; on 150 scores, where the 373 stores weigh more, 1.8 to 2.0 times.
-// Tried for less: the array as a local, passed by value, the loop in a separate function (1.042 to 1.044 by minima), two scores at a time (1 % less),
-// two passes (13 % more). Where the linker puts such a loop weighs more than its form: in plain Rust, without a table to store, the loop that leaves
-// early took 1,097 or 2,171 ns, one that gathers a flag 2,030, two scores at a time 1,090 and four 1,774. So the ratio moves from build to build.
+// array is stored on the stack wherever code names it. So `parts` returns the table once for a list, and `part` takes it by reference.
+// docs/PERFORMANCE.md says what the stores cost.
 ghost use mathlib.Core.Path.{_≡_};
 ghost use Prim.Native.Nat.{_≤_};
 ghost use Rattle.limits.specs.Limits.{scoreLimit};
