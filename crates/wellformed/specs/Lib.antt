@@ -6,6 +6,7 @@ pub mod Lanes
 pub mod EntryFaults
 pub mod PartLaws
 pub mod WordLaws
+pub mod LedgerLanes
 pub mod Checked
 pub mod VerdictLaws
 pub mod LogVerdictLaws
