@@ -45,10 +45,10 @@
 //! ```
 //! use cindrolf::{Answer, EntryNumber, Error, Log, Position, Refusal, Step};
 //!
-//! /// Where the read is stored; none where another client is named.
+//! /// Where the read is stored; none if another client is named.
 //! fn store(log: &mut Log, client: u64, value: u64) -> Result<Option<Position>, Error> {
 //!     while let Some(kind) = log.advise(client)? {
-//!         // A behind shows in the next advice.
+//!         // After a behind, the next advice says what to do.
 //!         if let Answer::Stored(at) = log.take(client, Step::new(kind, value))? {
 //!             return Ok(Some(at));
 //!         }
