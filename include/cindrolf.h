@@ -197,8 +197,8 @@ uint64_t cindrolf_close_own(uint64_t *state, size_t state_length, uint64_t *entr
 /* The same steps under rights: a buffer of CINDROLF_RIGHTS_WORDS words that is only read, in which the word of client c is rights[c]. A bit
  * that is no right, and any bit in a word from the client count on, makes it not well formed (2). The lengths of all three buffers come
  * before the words of any. Refusal 24, a missing right, comes after 3, and with scores after 19; then come those that the step names above.
- * With all ten rights of each client below the client count a step does and answers the same as above. One right more for such a client
- * changes only a step that 24 refused. The log keeps no rights: each step uses those that you pass with it. */
+ * With all ten rights of each client below the client count a step does and answers the same as above. An additional right for such a
+ * client changes only a step that 24 refused. The log keeps no rights: each step uses those that you pass with it. */
 uint64_t cindrolf_name_with(uint64_t *state, size_t state_length, uint64_t *entries, size_t entries_length, const uint64_t *rights,
                             size_t rights_length, uint64_t client);
 uint64_t cindrolf_become_with(uint64_t *state, size_t state_length, uint64_t *entries, size_t entries_length, const uint64_t *rights,
@@ -223,8 +223,8 @@ uint64_t cindrolf_close_own_with(uint64_t *state, size_t state_length, uint64_t 
                                  size_t rights_length, uint64_t client);
 
 /* A step by its number, CINDROLF_STEP_NAME to CINDROLF_STEP_CLOSE_OWN. If the number is above nine, refusal 25 comes before all others,
- * whatever the buffers, the rights and the client; else it does and answers the same as the step's own function, without rights or with
- * them. The value counts only for a write. A write of scores has no number. */
+ * whatever the buffers, the rights and the client. Otherwise it does and answers the same as the step's own function, without rights or
+ * with them. The value counts only for a write. A write of scores has no number. */
 uint64_t cindrolf_take(uint64_t *state, size_t state_length, uint64_t *entries, size_t entries_length, uint64_t step, uint64_t client,
                        uint64_t value);
 uint64_t cindrolf_take_with(uint64_t *state, size_t state_length, uint64_t *entries, size_t entries_length, const uint64_t *rights,
@@ -248,8 +248,8 @@ static inline uint64_t cindrolf_step_word(uint64_t step, uint64_t client, uint64
 uint64_t cindrolf_run_plan(uint64_t *state, size_t state_length, uint64_t *entries, size_t entries_length, const uint64_t *rights,
                            size_t rights_length, const uint64_t *plan, size_t plan_length, uint64_t budget);
 
-/* What a run adds: entries, ledger numbers, which are those of done creates, and how many of its steps are refused. Was closed and `behind`
- * are no refusals. */
+/* What a run adds: entries, the ledger numbers that done creates take, and how many of its steps are refused. Was closed and `behind` are
+ * no refusals. */
 struct cindrolf_plan_counts {
     uint64_t entries;
     uint64_t ledgers;
@@ -378,8 +378,8 @@ struct cindrolf_chain_count cindrolf_mark_read(const uint64_t *state, size_t sta
  * give no bytes. */
 uint64_t cindrolf_rearrange(const uint64_t *words, size_t words_length, uint8_t *bytes, size_t bytes_length);
 
-/* Gives back the words that cindrolf_rearrange wrote to these bytes, an eighth as many. Any bytes are those of some words. Done, or refusal 26,
- * which changes nothing. */
+/* Gives back the words that cindrolf_rearrange wrote to these bytes, an eighth as many. Any bytes, eight for each word, belong to some
+ * words. Done, or refusal 26, which changes nothing. */
 uint64_t cindrolf_restore(const uint8_t *bytes, size_t bytes_length, uint64_t *words, size_t words_length);
 
 /* How many bytes the sentence of cindrolf_sentence has, 0 on a refusal. */

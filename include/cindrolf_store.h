@@ -2,7 +2,7 @@
  * this header and a file for pkg-config (cindrolf-store) below PREFIX. cindrolf_store.hpp is the same for C++.
  *
  * A store keeps the steps of a log, and answers a step when it is on the disk. If a process is killed at any moment, each write that was
- * answered is stored once. Steps, answers, refusals, words, marks and rights are those of cindrolf.h.
+ * answered is stored once. Steps, answers, refusals, words, marks and rights are as in cindrolf.h.
  *
  * Statuses. Every function that returns an int returns a status: CINDROLF_STORE_OK, or why it was not done. After any status but OK,
  * UNKNOWN, UNWITNESSED and INTERNAL nothing is stored. A function writes its results through pointers only with OK, and answers with OK and
@@ -99,8 +99,8 @@ int cindrolf_store_close(cindrolf_store *store, char *message, size_t message_si
  * status say so. */
 int cindrolf_store_message(cindrolf_store *store, char *text, size_t text_size);
 
-/* The id of the request for which the last call on this handle gave CINDROLF_STORE_UNKNOWN, for cindrolf_store_settle; else 0. A log in a
- * file has no ids: read the log instead. */
+/* The id of the request for which the last call on this handle gave CINDROLF_STORE_UNKNOWN, for cindrolf_store_settle; otherwise 0. A log
+ * in a file has no ids: read the log instead. */
 int cindrolf_store_unknown_request(cindrolf_store *store, uint64_t *request);
 
 /* How long a call waits for another process, or for the server: 10,000 milliseconds until you change it. */
@@ -129,7 +129,7 @@ int cindrolf_store_write_scores(cindrolf_store *store, uint64_t client, const ui
 #define CINDROLF_STORE_KIND_DROP_MARK UINT64_C(12)
 #define CINDROLF_STORE_KIND_SET_RIGHTS UINT64_C(13)
 
-/* A step of a batch. The value is that of a write, the name of a mark, or a client's word of rights. The scores count only for
+/* A step of a batch. The value is a write's value, a mark's name, or a client's word of rights. The scores count only for
  * CINDROLF_STORE_KIND_WRITE_SCORES. The note is for people, in UTF-8, such as the name of a read; null is none. */
 struct cindrolf_store_asked {
     uint64_t kind;
