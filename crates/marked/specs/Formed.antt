@@ -1,4 +1,4 @@
--- What is well formed and what is not, on words: each clause of the papers at its smallest violation, which is refused by 2, and a neighbour.
+-- What is well formed and what is not, on words: each clause of the reference at its smallest violation, which 2 refuses, and a neighbour.
 use Prim.Native.Nat.{ℕ}
 use mathlib.Core.List.{List, [], _∷_, _++_}
 use lib.ListN.{replicate}

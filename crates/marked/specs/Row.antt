@@ -1,4 +1,4 @@
--- A row of the table: what the definitions give, and what the papers say; and logs that are made of words, which need not come from any step.
+-- A row of the table: what the definitions give, and what the reference says; and logs that are made of words, which need not come from any step.
 use Prim.Native.Nat.{ℕ}
 use mathlib.Core.List.{List, [], _∷_, _++_}
 use lib.ListN.{take, getD, replicate}

@@ -213,7 +213,7 @@ fn words(command: &str) -> Vec<String> {
     words.collect()
 }
 
-// Each command of the README's table prints what stands beside it, and the last one the tables below it.
+// Each command of the README's table prints what is beside it, and the last one the tables below it.
 #[test]
 fn the_readme() {
     let folder = Folder::new();

@@ -9,7 +9,7 @@ use support::{Folder, ended, kept};
 /// How many lines a record of FASTQ has.
 const RECORD: usize = 4;
 
-/// A command of the page, and what stands below it.
+/// A command of the page, and what is below it.
 struct Told {
     command: String,
     printed: String,

@@ -57,7 +57,7 @@ fn writable() -> Folder {
     folder
 }
 
-// Each reply names the entry, and there the value stands.
+// Each reply names the entry, and the value is there.
 #[test]
 fn sixteen_at_once() {
     const EACH: u64 = 12;

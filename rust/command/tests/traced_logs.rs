@@ -79,7 +79,7 @@ fn list(page: &str) -> String {
     page.lines().filter(|line| line.starts_with("<li")).map(|line| format!("{line}\n")).collect()
 }
 
-/// What stands at the end of a page.
+/// What is at the end of a page.
 fn result<'a>(page: &'a str, id: &str) -> &'a str {
     let (_, rest) = page.split_once(&format!("id=\"{id}\"")).unwrap();
     rest.split_once('>').unwrap().1.split_once('<').unwrap().0
