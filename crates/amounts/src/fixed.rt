@@ -26,7 +26,7 @@ pub fn put_pointed(text: &mut [u8], at: usize, ones: u64, places: u64, parts: u6
     put_padded(text, f, places, parts)
 }
 
-// The unit is that of the whole part.
+// The unit belongs to the whole part.
 fn put_fixed(text: &mut [u8], at: usize, unit: u64, places: u64, n: u64) -> usize
     requires unit { ⌜ unit ≡ 10 ^ places ⌝ }
     requires some { ⌜ 1 ≤ unit ⌝ }

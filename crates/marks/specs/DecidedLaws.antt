@@ -1,4 +1,4 @@
--- What the checks of set and of drop come to, by the verdict on all three buffers and by where the name stands.
+-- What the checks of set and of drop decide, by the verdict on all three buffers and by where the name is.
 use Prim.Native.Nat.{ℕ}
 use mathlib.Core.Path.{_≡_, sym, ap, _∙_}
 use mathlib.Core.Bool.{Bool, true, false, not, _&&_, _||_}

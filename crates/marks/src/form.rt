@@ -29,7 +29,7 @@ fn rest_is_zero(marks: &[u64], from: usize) -> bool
     ok
 }
 
-// Each name is compared with those behind it, so 32 names take 496 comparisons.
+// Each name is compared with those after it, so 32 names take 496 comparisons.
 pub fn marks_fit(marks: &[u64], count: u64) -> bool
     requires { ⌜ length (now marks) ≡ marksLength ⌝ }
     ensures { λ r. ⌜ r ≡ wellMarked count (pairsOf (now (marks .entry))) ⌝ }

@@ -11,7 +11,7 @@ pub const PAIRS: usize = 32;
 
 pub const LENGTH: usize = 64;
 
-// Whether a name is that of a pair from one on.
+// Whether any pair at index `from` or later has this name.
 pub fn has_name(marks: &[u64], from: usize, name: u64) -> bool
     requires long { ⌜ length (now marks) ≡ marksLength ⌝ }
     requires within { ⌜ from ≤ pairCount ⌝ }

@@ -49,7 +49,7 @@ pub fn set_verdict(state: &[u64], entries: &[u64], marks: &[u64], name: u64) -> 
     }
 }
 
-// Those of drop: the name must be that of a mark. All zero is none, though it stands in every free pair.
+// The checks of drop: the name must belong to a mark. All zero belongs to none, though every free pair has it.
 pub fn kept_verdict(state: &[u64], entries: &[u64], marks: &[u64], name: u64) -> Verdict
     ensures { λ r. ⌜ r ≡ verdict (dropChecks name (buffers (now (state .entry)) (now (entries .entry))) (now (marks .entry))) ⌝ }
 {

@@ -24,7 +24,7 @@ fn fenced(model: &mut Model, state: &mut State, entries: &mut Entries) {
     play(model, state, entries, SESSION, 0, 9);
 }
 
-// Its owner can't write and is behind. Client 2 fetches it; client 1 then finishes, and client 2 is behind.
+// Its owner cannot write and is behind. Client 2 fetches it; client 1 then finishes, and client 2 is behind.
 pub fn recovery(model: &mut Model, state: &mut State, entries: &mut Entries) {
     fenced(model, state, entries);
     let written = take(model, state, entries, write(0, 8));
@@ -44,7 +44,7 @@ pub fn recovery(model: &mut Model, state: &mut State, entries: &mut Entries) {
     say_line(b"create after finish", created);
 }
 
-// Finish of client 1, whose word is set first, and that of ledger 1.
+// Finish of client 1. Its word and the word of ledger 1 are set first.
 fn finish_with(state: &mut State, entries: &mut Entries, client: u64, ledger: u64) -> Answer {
     state[2] = client;
     state[17] = ledger;

@@ -1,4 +1,4 @@
--- What the code's value for a step by its number stands for, and what taking it owes.
+-- What the code's value for a step by its number means, and what taking it must give.
 use Prim.Native.Nat.{ℕ, suc, _≤_}
 use native.Mathlib.Omega.{arith}
 use mathlib.Core.Path.{_≡_, refl, sym, subst}

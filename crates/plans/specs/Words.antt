@@ -1,4 +1,4 @@
--- What the code's value for a step word stands for.
+-- What the code's value for a step word means.
 use Prim.Native.Nat.{ℕ}
 use mathlib.Core.Path.{_≡_, sym}
 use mathlib.Core.List.{List}

@@ -15,7 +15,7 @@ use Rattle.requests.specs.declared.line.Reply.{Reply}
 use Rattle.requests.specs.declared.line.Reply.the-variants.{Answered, NoStep}
 use Rattle.requests.specs.Lines.{Line}
 
--- A line without byte 10 is a bad line, whatever stands in it.
+-- A line without byte 10 is a bad line, whatever it has.
 unfoldable pub requestOf : Line → Request
 requestOf l = cond (l .ended) (parseLine (l .content)) BadLine
 

@@ -47,7 +47,7 @@ fn answer_request(state: &mut [u64], entries: &mut [u64], rights: &[u64], reques
     }
 }
 
-// Takes the line that begins at a place of the input, under the rights that are lent.
+// Takes the line that begins at a place of the input, under the rights that are passed.
 pub fn take_line(
     input: &[u8],
     from: usize,

@@ -25,7 +25,7 @@ pub fn grant_all(rights: &mut [u64], count: u64)
     }
 }
 
-// By the client count that stands in a state buffer, whatever else does.
+// By the client count in a state buffer, whatever else the buffer holds.
 pub fn grant_all_of(state: &[u64], rights: &mut [u64])
     ensures { λ r. ⌜ now (rights .exit) ≡ granted (head (now (state .entry)) .«client_count») (length (now (rights .entry))) ⌝ }
 {

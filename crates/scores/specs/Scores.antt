@@ -1,4 +1,4 @@
--- Quality scores: the part of each, which lists of them are taken, and what such a list comes to.
+-- Quality scores: the part of each, which lists of them are taken, and the sum of such a list.
 use Prim.Native.Nat.{ℕ, zero, suc, _+_, _*_, _^_, _≤_}
 use mathlib.Core.Path.{_≡_}
 use mathlib.Core.Bool.{Bool, cond}

@@ -384,7 +384,7 @@ const PARTS: [u64; 373] = [
     501,
 ];
 
-// A constant array is stored anew wherever it is named: so the table is made once for a list of scores, and not for each score.
+// A constant array is stored again wherever it is named: so the table is made once for a list of scores, and not for each score.
 pub fn parts() -> [u64; 373]
     ensures { λ r. ⌜ def.Table r ⌝ }
 {

@@ -39,7 +39,7 @@ sentenceChecks step client refusal text = (TextTooShort when less (length text) 
 unfoldable pub sentenceAnswer : ℕ → ℕ → ℕ → List ℕ → SentenceAnswer
 sentenceAnswer step client refusal text = first (sentenceChecks step client refusal text) Refused (Length (length (sentence step client refusal)))
 
--- The sentence stands at the beginning, and the bytes behind it stay. A refusal leaves all of them.
+-- The sentence is at the beginning, and the bytes after it stay. A refusal leaves all of them.
 unfoldable pub sentenceText : ℕ → ℕ → ℕ → List ℕ → List ℕ
 sentenceText step client refusal text = first (sentenceChecks step client refusal text) (λ _. text)
     (sentence step client refusal ++ drop (length (sentence step client refusal)) text)

@@ -25,7 +25,7 @@ pub fn put_name(text: &mut [u8], at: usize, step: u64) -> usize
     }
 }
 
-// Where the name ends in the text that it begins; 0 where other bytes stand there.
+// Where the name ends in the text that it begins; 0 if the text begins with other bytes.
 pub fn name_end(bytes: &[u8], step: u64) -> usize
     ensures { λ r. ⌜ r ≡ phraseEnd (now (bytes .entry)) (stepName step) ⌝ }
 {

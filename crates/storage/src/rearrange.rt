@@ -9,7 +9,7 @@ ghost use Rattle.storage.specs.Storage.{differences, plane, rearrangemen
 
 const PLANES: u64 = 8;
 
-// Plane j, where the first is that of the most significant bytes.
+// Plane j. The first has the most significant bytes.
 fn write_plane(words: &[u64], bytes: &mut [u8], j: u64)
     requires { ⌜ (j < 8) × (length (now bytes) ≡ length (now words)) ⌝ }
     ensures { λ _. ⌜ now (bytes .exit) ≡ plane (7 - j) (differences (now (words .entry))) ⌝ }

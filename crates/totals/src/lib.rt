@@ -1,4 +1,4 @@
-// Totals of a log: the sum of one ledger's values, and that of the whole run.
+// Totals of a log: the sum of one ledger's values, and the sum of the whole run.
 pub mod answer;
 mod exact;
 pub mod ledger_sum;

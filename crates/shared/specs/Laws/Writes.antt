@@ -1,4 +1,4 @@
--- The accepted writes of single steps: those that the journal notes, and where each stands among them.
+-- The accepted writes of single steps: those that the journal notes, and the place of each among them.
 use Prim.Native.Nat.{ℕ, suc, _<_}
 use native.Mathlib.Omega.{arith}
 use mathlib.Core.Path.{_≡_, refl, sym, ap, subst, _∙_}
