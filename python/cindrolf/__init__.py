@@ -48,7 +48,7 @@ from ._values import (
     value_of,
 )
 
-# The interface of the library, and that of the store.
+# The interfaces of the library and of the store.
 __version__ = "3.1"
 
 __all__ = [name for name in dir() if not name.startswith("_")]

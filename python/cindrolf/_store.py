@@ -13,7 +13,7 @@ from ._reading import Reading, Snapshot, Words
 from ._steps import Steps
 from ._values import Answer, Kind, Numbers, Status, Step, mark_name, refusal_of, scores_of, word, words_of
 
-#: How long a wait is at a time, so that Python sees a signal such as that of Ctrl-C in between.
+#: How long a wait is at a time, so that Python sees a signal such as Ctrl-C in between.
 _SLICE = 0.1
 
 Address = Union[str, bytes, "os.PathLike[str]"]

@@ -87,7 +87,7 @@ class Status(enum.IntEnum):
 
 
 class Answer(NamedTuple):
-    """What a step that was not refused answers. Its text is that of a session's transcript, such as ``entry 0 place 0``."""
+    """What a step that was not refused answers. Its text is as in a session's transcript, such as ``entry 0 place 0``."""
 
     #: The answer as the library gives it.
     number: int

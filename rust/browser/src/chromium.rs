@@ -134,7 +134,7 @@ impl Chromium {
 
     /// Opens a page, and waits until it is painted: how many milliseconds that took from the start of the navigation.
     pub fn visit(&mut self, address: &str) -> Outcome<f64> {
-        // Only another page starts anew; a part of the same one would not.
+        // Only another page starts again; a part of the same one would not.
         self.call("Page.navigate", "{\"url\":\"about:blank\"}")?;
         let answer = self.call("Page.navigate", &format!("{{\"url\":{}}}", quoted(address)))?;
         if answer.contains("\"errorText\"") {

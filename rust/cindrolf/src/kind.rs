@@ -19,7 +19,7 @@ macro_rules! kinds {
         }
 
         impl Kind {
-            /// The ten kinds, in the order of their numbers, which is that of the bits of rights.
+            /// The ten kinds, in the order of their numbers and of the bits of rights.
             pub const ALL: [Kind; 10] = [$(Kind::$kind),*];
 
             /// Its letter in a line of a session.

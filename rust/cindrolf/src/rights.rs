@@ -84,7 +84,7 @@ impl Rights {
     /// let kept = Rights::all(2)?.words().to_vec();
     /// let rights = Rights::from_words(kept.try_into().expect("16 words"));
     /// assert_eq!(log.under(&rights).name(1), Ok(()));
-    /// // Client 2 is none of this log, so nobody can give it a right.
+    /// // This log has no client 2, so it cannot be given a right.
     /// let stray = Rights::all(3)?;
     /// assert_eq!(log.under(&stray).name(0), Err(Error::Refused(Refusal::NotWellFormed)));
     /// # Ok::<(), Error>(())

@@ -173,7 +173,7 @@ fn capacities() {
     assert_eq!(Log::from_words(log.state(), &log.entries()[..512]), refused(Refusal::NotWellFormed));
 }
 
-// Numbers go on over the whole log, and places begin anew in each ledger.
+// Numbers go on over the whole log, and places begin at 0 in each ledger.
 #[test]
 fn places() {
     let mut log = writing(2);

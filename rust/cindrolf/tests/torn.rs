@@ -44,7 +44,7 @@ fn half_a_close_last_leaves_no_fence() {
     assert_eq!(log.write(0, 202).unwrap().number, EntryNumber(1));
 }
 
-// The client goes on to its next ledger, and the one before stays open in the midst of the list.
+// The client goes on to its next ledger, and the one before stays open within the list.
 #[test]
 fn half_a_close_own_leaves_two_open_ledgers() {
     let mut log = torn(&after(&LEADS), 0, Step::CLOSE_OWN, 1);

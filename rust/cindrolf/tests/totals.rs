@@ -41,7 +41,7 @@ fn of_a_handover() {
     assert_eq!(total.to_string(), "1.000500000000");
 }
 
-// A full ledger of the greatest values stands at all 255 places: 255 × 4,096 × (2^52 - 1) is 4,703,919,738,795,934,617,600.
+// A full ledger of the greatest values is at all 255 places: 255 × 4,096 × (2^52 - 1) is 4,703,919,738,795,934,617,600.
 #[test]
 fn of_a_ledger_that_is_listed_255_times() {
     let mut state = [0; STATE_WORDS];

@@ -13,7 +13,7 @@ unsafe extern "C" {
 
 static CLOSED: [AtomicBool; 2] = [AtomicBool::new(false), AtomicBool::new(false)];
 
-/// The loader calls what stands in this section before the program begins.
+/// The loader calls what is in this section before the program begins.
 #[used]
 #[unsafe(link_section = ".init_array")]
 static LOOK: extern "C" fn() = look;

@@ -1,6 +1,6 @@
 //! Fields with commas between them, as in RFC 4180, except that a line ends with byte 10 alone.
 
-/// A line. A field that has a comma, a quote or a line end stands in quotes.
+/// A line. A field that has a comma, a quote or a line end is in quotes.
 pub fn line<T: AsRef<str>>(fields: &[T]) -> String {
     let fields: Vec<_> = fields.iter().map(|text| field(text.as_ref())).collect();
     fields.join(",") + "\n"

@@ -99,7 +99,7 @@ fn run(command: Command) -> Result<ExitCode, Failure> {
     Ok(ExitCode::SUCCESS)
 }
 
-/// Opens a log. What another process has stored that is not so is told, and keeps nobody from going on.
+/// Opens a log. If another process has stored a wrong answer, a warning says so, and the command goes on.
 fn open(file: &Path) -> Result<Store, Failure> {
     let mut store = Store::open(file).map_err(|error| Failure::of_reading(file, error))?;
     if let Some(name) = std::env::var_os("CINDROLF_PROCESS") {

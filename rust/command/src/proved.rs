@@ -45,7 +45,7 @@ fn ended(mut child: Child) -> io::Result<(ExitStatus, String)> {
     Ok((child.wait()?, String::from_utf8_lossy(&said).into_owned()))
 }
 
-/// The status as a shell gives it: that of a program that a signal ended is above 128.
+/// The status as a shell gives it: above 128 for a program that a signal ended.
 fn code(status: ExitStatus) -> ExitCode {
     let number = status.code().unwrap_or_else(|| 128 + status.signal().unwrap_or(0));
     ExitCode::from(u8::try_from(number).unwrap_or(1))

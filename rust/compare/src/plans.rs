@@ -9,7 +9,7 @@ use model::random::Random;
 use model::rights::{self, RIGHTS_WORDS};
 use model::source::Source;
 
-/// What a client does in a row that goes on and on: from each stage at its own place, and anew from the last create.
+/// What a client does in a row that goes on and on: from each stage at its own place, and again from the last create.
 const ONWARD: [Step; 12] = [
     Step::Become,
     Step::Fetch,
