@@ -6,12 +6,12 @@ use expected::session::transcript;
 /// Inputs and their whole outputs. Lines are parted by ` | ` here.
 const WHOLE: &[(&str, &str)] = &[
     (
-        "session_of_01",
+        "reference_session",
         "1 ok | 2 ok | 3 ok | 4 ok | 5 entry 0 place 0 | 6 ok | 7 ok | 8 ok | 9 ok | 10 ok | 11 ref 12 | 12 \
          ok | 13 ok | 14 entry 1 place 0 | 15 behind | chain 0:7 1:9",
     ),
     (
-        "session_of_01_write_after",
+        "reference_write_after",
         "1 ok | 2 ok | 3 ok | 4 ok | 5 entry 0 place 0 | 6 ok | 7 ok | 8 ok | 9 ok | 10 ok | 11 ref 12 | 12 \
          ok | 13 ok | 14 entry 1 place 0 | 15 ref 12 | chain 0:7 1:9",
     ),

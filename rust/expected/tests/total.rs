@@ -6,7 +6,7 @@ use expected::total::{exact, output, rounded};
 
 /// The last two lines of each, without `total` and `rounded`.
 const ENDS: &[(&str, &str, &str)] = &[
-    ("session_of_01", "0.000000000016", "0.000"),
+    ("reference_session", "0.000000000016", "0.000"),
     ("total_no_line", "0.000000000000", "0.000"),
     ("total_half_minus_1", "0.000499999999", "0.000"),
     ("total_half", "0.000500000000", "0.001"),
