@@ -176,7 +176,7 @@ struct cindrolf_store_taken {
 int cindrolf_store_snapshot(cindrolf_store *store, uint64_t *state, size_t state_length, uint64_t *entries, size_t entries_length,
                             uint64_t *marks, size_t marks_length, uint64_t *rights, size_t rights_length, struct cindrolf_store_taken *taken);
 
-/* Waits until the log has rows that this handle has neither read nor stored, up to so many milliseconds, and says whether it has: 1 or 0. A
+/* Waits until the log has rows that this handle has neither read nor stored, up to that many milliseconds, and says whether it has: 1 or 0. A
  * snapshot reads them. After cindrolf_store_end_waiting it does not wait. */
 int cindrolf_store_changed(cindrolf_store *store, uint64_t milliseconds, uint64_t *changed);
 
