@@ -119,15 +119,15 @@ mod tests {
     #[test]
     fn options_are_those_of_growth_and_the_programs_own() {
         let mut folder = String::new();
-        let words = ["--folder", "/tmp/x", "--seconds", "7", "--plot", "a.svg"];
+        let words = ["--folder", "/somewhere", "--seconds", "7", "--plot", "a.svg"];
         let mut own = |name: &str, text: &str| {
             folder = text.into();
             name == "--folder"
         };
         let given = options(&words, "usage", &mut own).expect("these are options");
-        assert_eq!((given.seconds, given.plot, folder.as_str()), (7, Some("a.svg".into()), "/tmp/x"));
+        assert_eq!((given.seconds, given.plot, folder.as_str()), (7, Some("a.svg".into()), "/somewhere"));
         let words: [&[&str]; 5] =
-            [&["--seconds", "0"], &["--seconds", "x"], &["--seconds"], &["--folder", "/tmp"], &["7"]];
+            [&["--seconds", "0"], &["--seconds", "x"], &["--seconds"], &["--folder", "/somewhere"], &["7"]];
         for words in words {
             assert_eq!(options(words, "usage", |_, _| false).err().as_deref(), Some("usage"), "{words:?}");
         }
