@@ -1,4 +1,6 @@
 // The adviser: the next step of one client, from both buffers, which are only read.
+#![tactic(auto)]
+
 pub mod table;
 
 ghost use Rattle.std.specs.Prelude.{◌≡◌};

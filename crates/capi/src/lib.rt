@@ -1,4 +1,6 @@
 // The log for callers in C, C++ and Rust. include/cindrolf.h declares the functions that are exported here.
+#![tactic(auto)]
+
 pub mod advice;
 pub mod by_number;
 pub mod log;

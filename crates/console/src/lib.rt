@@ -1,4 +1,6 @@
 // Reads a session's input on a file descriptor, and writes its product to standard output.
+#![tactic(auto)]
+
 use libc::STDOUT_FILENO;
 use limits::{INPUT_LIMIT, RUN_TOTAL_LIMIT, TRANSCRIPT_LIMIT};
 use text::lent::Printed;

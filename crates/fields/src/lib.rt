@@ -1,4 +1,6 @@
 // Bit fields packed into 64-bit words. The laws are in specs/; the code needs only the bit of a flag.
+#![tactic(auto)]
+
 ghost use Rattle.std.specs.Prelude.{◌≡◌, ◌<◌};
 ghost use Rattle.fields.specs.Bit.{bit};
 

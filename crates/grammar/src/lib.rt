@@ -1,4 +1,6 @@
 // A line of the session, read as a step.
+#![tactic(auto)]
+
 ghost use Rattle.std.specs.Prelude.{◌≡◌};
 ghost use Rattle.grammar.specs.Grammar.{with_client, letter_step, client_step, write_step, parse_write, parse_line};
 

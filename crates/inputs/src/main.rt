@@ -1,4 +1,6 @@
 // Prints the transcript and the run total of each file that its arguments name, under a line with the name.
+#![tactic(auto)]
+
 use console::Product;
 use libc::STDOUT_FILENO;
 

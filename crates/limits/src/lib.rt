@@ -1,4 +1,5 @@
 // The limits of the log and of its programs. A constant whose name ends in LIMIT is the largest value that is accepted.
+#![tactic(auto)]
 
 // Clients that share a log.
 pub const CLIENT_LIMIT: u64 = 16;

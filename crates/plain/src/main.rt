@@ -1,4 +1,6 @@
 // Runs the reference's example session and limits on the log and on a model of LedgerChaining, and prints the answer of each, one to a line.
+#![tactic(auto)]
+
 mod beside;
 mod examples;
 mod readings;

@@ -1,4 +1,6 @@
 // Steps by their numbers, and plans: such steps as words, run up to a budget, and what a run will use.
+#![tactic(auto)]
+
 mod copy;
 mod count;
 pub mod forecast;

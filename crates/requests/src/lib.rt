@@ -1,4 +1,6 @@
 // What a session's input asks for: how it starts, and each of its lines read as a request and taken as a step. It prints nothing.
+#![tactic(auto)]
+
 pub mod line;
 pub mod start;
 

@@ -1,4 +1,6 @@
 // The rights of the clients: a buffer of 16 words, with a bit for each kind of step. They are only read, or made for a caller that passes all.
+#![tactic(auto)]
+
 pub mod all;
 pub mod form;
 pub mod verdict;

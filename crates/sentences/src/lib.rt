@@ -1,4 +1,6 @@
 // A refusal in words: one sentence of fixed phrases for step and reason and of the client's number, written to a text buffer and read back.
+#![tactic(auto)]
+
 pub mod answer;
 mod begin;
 mod name;

@@ -1,4 +1,6 @@
 // The session program's transcript, from the bytes of its input to the bytes that it prints.
+#![tactic(auto)]
+
 pub mod chain_end;
 pub mod replies_to;
 pub mod start;

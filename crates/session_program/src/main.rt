@@ -1,4 +1,6 @@
 // The session program: reads a session from standard input and prints its transcript.
+#![tactic(auto)]
+
 use console::Product;
 use libc::STDIN_FILENO;
 

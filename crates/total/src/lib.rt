@@ -1,4 +1,6 @@
 // The run total of a session: from the bytes of its input to the bytes that are printed.
+#![tactic(auto)]
+
 mod ledgers;
 mod lines;
 pub mod start;

@@ -1,4 +1,6 @@
 // What a controller of a shared log does next: pure decisions, which the drivers of the engines call. A driver does all reading and writing.
+#![tactic(auto)]
+
 pub mod id;
 pub mod number;
 

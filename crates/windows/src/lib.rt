@@ -1,4 +1,6 @@
 // The first window of the chain reading whose values add up to more than a limit. Neither the reading nor a part of it is copied.
+#![tactic(auto)]
+
 mod cursor;
 mod walk;
 
