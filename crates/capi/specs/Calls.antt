@@ -21,7 +21,8 @@ use Rattle.chain.specs.Plans.{planned_answer, after_planned, forecast}
 use Rattle.plans.specs.declared.forecast.Forecast.{Forecast}
 use Rattle.plans.specs.Numbers.{TakeResult}
 use Rattle.plans.specs.Runs.{Foretells}
-use Rattle.chain.specs.Laws.Numbers.{NumbersBelow, step-numbers}
+use Rattle.chain.specs.NumberSizes.{NumbersBelow}
+use Rattle.chain.proofs.Laws.Numbers.{step-numbers}
 use Rattle.fresh.specs.Fresh.{FreshResult}
 use Rattle.sentences.specs.declared.answer.SentenceAnswer.{SentenceAnswer}
 use Rattle.sentences.specs.declared.answer.SentenceRead.{SentenceRead}

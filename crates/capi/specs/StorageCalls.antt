@@ -3,7 +3,7 @@ use Rattle.std.specs.Prelude.{ℕ, ◌≡◌, List, length}
 use Rattle.std.proofs.Common.{sym, ap, subst, ◌∙◌}
 use Rattle.chain.specs.declared.answer.Answer.{Answer}
 use Rattle.chain.specs.Answers.{answer_number}
-use Rattle.chain.specs.Laws.Numbers.{NumbersBelow}
+use Rattle.chain.specs.NumberSizes.{NumbersBelow}
 use Rattle.storage.specs.Storage.{storage_checks, storage_answer, bytes_after, words_after}
 use Rattle.capi.specs.Calls.{numbers-none}
 

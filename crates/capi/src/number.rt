@@ -1,7 +1,7 @@
 // An answer and an advice as one number, since no enum crosses the boundary.
 ghost use Rattle.std.specs.Prelude.{◌≡◌};
 ghost use Rattle.chain.specs.Answers.{answer_number, advice_number};
-ghost use Rattle.chain.specs.Laws.Numbers.{NumbersBelow};
+ghost use Rattle.chain.specs.NumberSizes.{NumbersBelow};
 
 use chain::advice::Advice;
 use chain::answer::Answer;

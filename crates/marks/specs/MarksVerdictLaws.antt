@@ -15,7 +15,7 @@ use Rattle.chain.specs.Verdicts.{verdict, and_then, verdict-append, verdict-pass
 use Rattle.chain.specs.Buffers.{head}
 use Rattle.chain.specs.Operations.{buffers}
 use Rattle.chain.specs.Marks.{marks_length, pairs_of, well_marked, log_count, marks_checks}
-use Rattle.chain.specs.Laws.Formed.{Formed, formed}
+use Rattle.chain.proofs.Laws.Formed.{Formed, formed}
 use Rattle.wellformed.specs.declared.Checked.{Checked}
 use Rattle.wellformed.specs.declared.Checked.TheVariants as checks
 use Rattle.wellformed.specs.Checked.{checked, the-head}

@@ -23,8 +23,8 @@ use Rattle.chain.specs.Verdicts.{verdict, and_then, verdict-append, verdict-pass
 use Rattle.chain.specs.Buffers.{head}
 use Rattle.chain.specs.Operations.{buffers, cleared}
 use Rattle.chain.specs.Marks.{marks_length, count_unit, pairs_of, words_of, among, well_marked, word_of, with_mark, without_mark, log_count, set_checks, set_answer, after_set, drop_checks, drop_answer, after_drop, first_entries, mark_count, read_mark_checks, read_mark_answer, read_mark_output}
-use Rattle.chain.specs.Laws.Formed.{formed, sized}
-use Rattle.chain.specs.Laws.Marks.{kept-count}
+use Rattle.chain.proofs.Laws.Formed.{formed, sized}
+use Rattle.chain.proofs.Laws.Marks.{kept-count}
 use Rattle.marks.specs.Pairs.{place_of}
 use Rattle.marks.specs.Gap.{gap_closed}
 use Rattle.marks.specs.PlacedLaws.{set-placed, drop-placed, word-placed}

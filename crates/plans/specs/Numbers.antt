@@ -8,7 +8,7 @@ use Rattle.chain.specs.declared.answer.Answer.TheVariants.{Refused}
 use Rattle.chain.specs.Steps.{Step}
 use Rattle.chain.specs.Operations.{Buffers, buffers, Result}
 use Rattle.chain.specs.Plans.{numbered_step, planned_answer, after_planned, ledgers_by}
-use Rattle.chain.specs.NumberedTheorem.{no_kind}
+use Rattle.chain.proofs.NumberedTheorem.{no_kind}
 use Rattle.dispatch.specs.declared.Step as code
 use Rattle.dispatch.specs.Dispatch.{step_of}
 use Rattle.plans.specs.declared.number.Planned.{Planned}

@@ -6,7 +6,7 @@ use Rattle.std.proofs.Math.ListN.{replicate, length-append, length-take, length-
 use Rattle.std.proofs.Math.Seq.{get_or-take}
 use Rattle.checks.specs.TestLaws.{by_bool}
 use Rattle.chain.specs.Rights.{rights_length, every_right, all_rights}
-use Rattle.chain.specs.Laws.Fresh.{past, within}
+use Rattle.chain.proofs.Laws.Fresh.{past, within}
 
 -- The word of a client: all ten below the count, and else none.
 abbrev pub word_for : ℕ → ℕ → ℕ

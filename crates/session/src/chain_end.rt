@@ -2,7 +2,7 @@
 ghost use Rattle.text.specs.Puts.{Puts, Room};
 ghost use Rattle.chain.specs.Operations.{buffers, chain_reading};
 ghost use Rattle.replies.specs.Replies.{chain_line};
-ghost use Rattle.session.specs.Parts.{Reads};
+ghost use Rattle.session.specs.Owed.{Reads};
 
 use chain::answer::ChainAnswer;
 

@@ -5,7 +5,7 @@ ghost use Rattle.text.specs.Puts.{Room};
 ghost use Rattle.chain.specs.Operations.{buffers};
 ghost use Rattle.requests.specs.Lines.{lines};
 ghost use Rattle.session.specs.Transcript.{session};
-ghost use Rattle.session.specs.Parts.{Ran};
+ghost use Rattle.session.specs.Owed.{Ran};
 
 // The replies to the lines from a place of the input on. It answers where the text then ends.
 pub fn put_replies(

@@ -12,11 +12,3 @@ pub mod Ending
 pub mod EndingPromise
 pub mod Losing
 pub mod LosingPromise
-pub mod Laws
-pub mod IdsTheorem
-pub mod NumbersTheorem
-pub mod SharingTheorem
-pub mod DrivingTheorem
-pub mod EndingTheorem
-pub mod LosingTheorem
-pub mod Examples

@@ -12,8 +12,8 @@ use Rattle.chain.specs.declared.answer.Verdict.TheVariants.{Pass, Refuse}
 use Rattle.chain.specs.Verdicts.{verdict, verdict-refuses, passes-first}
 use Rattle.chain.specs.Operations.{buffers, log_checks, read_ledger_checks, read_ledger_part}
 use Rattle.chain.specs.Values.{sum, sum_of}
-use Rattle.chain.specs.Laws.Formed.{capacity-most}
-use Rattle.chain.specs.Laws.Values.{values-cleared}
+use Rattle.chain.proofs.Laws.Formed.{capacity-most}
+use Rattle.chain.proofs.Laws.Values.{values-cleared}
 use Rattle.amounts.specs.Rounding.{rounded}
 use Rattle.wellformed.specs.declared.Checked.{Checked}
 use Rattle.wellformed.specs.declared.Checked.TheVariants as checks

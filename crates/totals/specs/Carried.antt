@@ -10,7 +10,7 @@ use Rattle.records.specs.Words.{unpack_place}
 use Rattle.chain.specs.Log.{of_ledger}
 use Rattle.chain.specs.Operations.{word_ledger}
 use Rattle.chain.specs.Values.{sum, sum_of}
-use Rattle.chain.specs.Laws.Values.{sum_bound, sum-append}
+use Rattle.chain.proofs.Laws.Values.{sum_bound, sum-append}
 use Rattle.ledger_part.specs.Part.{IsPart}
 use Rattle.readers.specs.Along.{along, chain_words, along-all, along-turn, along-end}
 

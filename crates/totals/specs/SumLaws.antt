@@ -6,7 +6,7 @@ use Rattle.chain.specs.Log.{of_ledger}
 use Rattle.chain.specs.Buffers.{head}
 use Rattle.chain.specs.Operations.{Buffers, word_ledger, used_words, read_ledger_checks, read_ledger_part}
 use Rattle.chain.specs.Values.{sum, sum_of}
-use Rattle.chain.specs.Laws.Lists.{of-shorter}
+use Rattle.chain.proofs.Laws.Lists.{of-shorter}
 
 -- Words added up so far, and those still to be added.
 pub sum-turn : (ws : List ℕ) (i so_far : ℕ) → i < length ws → so_far + sum_of (drop i ws) ≡ sum_of ws

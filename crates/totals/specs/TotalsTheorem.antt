@@ -21,9 +21,9 @@ use Rattle.chain.specs.Operations.{Buffers, held, IsLog, log_checks, step_answer
 use Rattle.chain.specs.Journal.{Journal, stored_word, chain_word}
 use Rattle.chain.specs.Values.{sum, sum_of, values}
 use Rattle.chain.specs.LogPromise.{after, told, Listed, Small, ShowsHistory}
-use Rattle.chain.specs.LogTheorem.{refusals-change-nothing, accepted-leaves-log, whole-history}
-use Rattle.chain.specs.Laws.Formed.{capacity-most}
-use Rattle.chain.specs.Laws.Values.{sum_bound, sum-append, values-cleared, stored-values, chain-values}
+use Rattle.chain.proofs.LogTheorem.{refusals-change-nothing, accepted-leaves-log, whole-history}
+use Rattle.chain.proofs.Laws.Formed.{capacity-most}
+use Rattle.chain.proofs.Laws.Values.{sum_bound, sum-append, values-cleared, stored-values, chain-values}
 use Rattle.totals.specs.declared.answer.SumAnswer.TheVariants as sums
 use Rattle.totals.specs.declared.answer.TotalAnswer.TheVariants as totals
 use Rattle.totals.specs.Totals.{summed, ledger_sum, sum_number, run_sum, total_of, run_total, total_number}

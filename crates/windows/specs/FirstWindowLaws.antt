@@ -16,7 +16,7 @@ use Rattle.chain.specs.Operations.{buffers, chain_reading}
 use Rattle.chain.specs.Values.{value_of}
 use Rattle.limits.specs.Limits.{window_limit}
 use Rattle.chain.specs.Windows.{window_from, wrong_length, window_checks, first_window}
-use Rattle.chain.specs.Laws.Values.{values-cleared}
+use Rattle.chain.proofs.Laws.Values.{values-cleared}
 use Rattle.wellformed.specs.declared.Checked.{Checked}
 use Rattle.wellformed.specs.declared.Checked.TheVariants as checks
 use Rattle.wellformed.specs.Checked.{checked, said, the-verdict, the-head}

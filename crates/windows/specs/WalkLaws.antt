@@ -9,8 +9,8 @@ use Rattle.std.proofs.lemmas.List.{length-map}
 use Rattle.chain.specs.declared.answer.WindowAnswer.TheVariants.{None, Start}
 use Rattle.chain.specs.Values.{sum, value_of, sum_of}
 use Rattle.chain.specs.Windows.{reading_place, window_from}
-use Rattle.chain.specs.Laws.Values.{sum_bound, sum-append}
-use Rattle.chain.specs.Laws.Windows.{from-short, from-over, from_next}
+use Rattle.chain.proofs.Laws.Values.{sum_bound, sum-append}
+use Rattle.chain.proofs.Laws.Windows.{from-short, from-over, from_next}
 
 -- The kept sum is the sum worked out afresh of the words held, which are the first ones left at the start.
 pub record Window (n limit : ℕ) (whole first past : List ℕ) (start held kept : ℕ) : Type 0 where

@@ -9,7 +9,7 @@ use Rattle.chain.specs.Buffers.{list_in}
 use Rattle.chain.specs.Operations.{word_ledger}
 use Rattle.chain.specs.Values.{value_of}
 use Rattle.chain.specs.Windows.{reading_place, window_from}
-use Rattle.chain.specs.Laws.Lists.{of-shorter}
+use Rattle.chain.proofs.Laws.Lists.{of-shorter}
 use Rattle.readers.specs.Readable.{Readable}
 use Rattle.readers.specs.ListedLaws.{place_ledger}
 use Rattle.readers.specs.Along.{chain_words}

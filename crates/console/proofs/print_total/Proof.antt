@@ -4,7 +4,7 @@ use mathlib.Core.Path.{sym}
 use lib.Seq.{length-take-le}
 use borrow.Author.Rules.{rules}
 use Rattle.text.specs.Lent.{within}
-use Rattle.total.specs.LengthLaws.{output-length}
+use Rattle.total.proofs.LengthLaws.{output-length}
 use Rattle.console.proofs.print_total.Statement.{statement}
 use Rattle.console.proofs.print_total.Tie as tie
 

@@ -4,7 +4,7 @@ use mathlib.Core.Path.{sym}
 use lib.Seq.{length-take-le}
 use borrow.Author.Rules.{rules}
 use Rattle.text.specs.Lent.{within}
-use Rattle.session.specs.LengthLaws.{transcript-length}
+use Rattle.session.proofs.LengthLaws.{transcript-length}
 use Rattle.console.proofs.print_transcript.Statement.{statement}
 use Rattle.console.proofs.print_transcript.Tie as tie
 

@@ -2,7 +2,7 @@
 use native.Mathlib.Omega.{arith}
 use borrow.Author.Rules.{rules}
 use Rattle.sentences.specs.LengthLaws.{some-refusal}
-use Rattle.sentences.specs.SaidLaws.{too_short, not-said, known, room, said}
+use Rattle.sentences.proofs.SaidLaws.{too_short, not-said, known, room, said}
 use Rattle.sentences.proofs.sentence.Statement.{statement}
 use Rattle.sentences.proofs.sentence.Tie as tie
 

@@ -1,7 +1,7 @@
 -- `run_total` meets its contract.
 use native.Mathlib.Omega.{arith}
 use Rattle.text.specs.Lent.{too_short, room-for-all, printed}
-use Rattle.total.specs.LengthLaws.{output-length}
+use Rattle.total.proofs.LengthLaws.{output-length}
 use borrow.Author.Rules.{rules}
 use Rattle.total.proofs.run_total.Statement.{statement}
 use Rattle.total.proofs.run_total.Tie as tie

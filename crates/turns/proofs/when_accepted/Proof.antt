@@ -1,6 +1,6 @@
 -- `when_accepted` meets its contract.
 use mathlib.Core.Path.{sym}
-use Rattle.sharing.specs.Laws.Turns.{accepted-none, accepted-some}
+use Rattle.sharing.proofs.Laws.Turns.{accepted-none, accepted-some}
 use Rattle.turns.proofs.when_accepted.Statement.{statement}
 use Rattle.turns.proofs.when_accepted.Tie as tie
 

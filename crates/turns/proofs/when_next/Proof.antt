@@ -1,6 +1,6 @@
 -- `when_next` meets its contract.
 use mathlib.Core.Path.{sym}
-use Rattle.sharing.specs.Laws.Turns.{next-own, next-other}
+use Rattle.sharing.proofs.Laws.Turns.{next-own, next-other}
 use Rattle.turns.proofs.when_next.Statement.{statement}
 use Rattle.turns.proofs.when_next.Tie as tie
 use Rattle.turns.proofs.when_next.Reads as reads

@@ -1,7 +1,7 @@
 -- `when_placed` meets its contract.
 use native.Mathlib.Omega.{arith}
 use mathlib.Core.Path.{sym}
-use Rattle.sharing.specs.Laws.Turns.{placed-next, placed-further}
+use Rattle.sharing.proofs.Laws.Turns.{placed-next, placed-further}
 use Rattle.turns.proofs.when_placed.Statement.{statement}
 use Rattle.turns.proofs.when_placed.Tie as tie
 use Rattle.turns.proofs.when_placed.Reads as reads

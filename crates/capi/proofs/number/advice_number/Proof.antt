@@ -4,7 +4,7 @@ use native.Mathlib.Omega.{arith}
 use mathlib.Core.Path.{sym, ap, ◌∙◌}
 use borrow.Author.Rules.{rules}
 use Rattle.chain.specs.Answers.{advice_number}
-use Rattle.chain.specs.Laws.Numbers.{refusal-range}
+use Rattle.chain.proofs.Laws.Numbers.{refusal-range}
 use Rattle.capi.proofs.number.advice_number.Statement.{statement}
 use Rattle.capi.proofs.number.advice_number.Tie as tie
 

@@ -4,7 +4,8 @@ use native.Mathlib.Omega.{arith}
 use mathlib.Core.Path.{sym, ap, subst, ◌∙◌}
 use borrow.Author.Rules.{rules}
 use Rattle.chain.specs.Answers.{answer_number}
-use Rattle.chain.specs.Laws.Numbers.{NumbersBelow, refusal-range}
+use Rattle.chain.specs.NumberSizes.{NumbersBelow}
+use Rattle.chain.proofs.Laws.Numbers.{refusal-range}
 use Rattle.capi.proofs.number.answer_number.Statement.{statement}
 use Rattle.capi.proofs.number.answer_number.Tie as tie
 

@@ -1,7 +1,7 @@
 -- `on_a_copy` meets its contract.
 use mathlib.Core.Path.{sym}
 use lib.Seq.{length-take-le}
-use Rattle.chain.specs.Laws.Formed.{capacity-most}
+use Rattle.chain.proofs.Laws.Formed.{capacity-most}
 use borrow.Author.Rules.{rules}
 use Rattle.plans.proofs.forecast.on_a_copy.Statement.{statement}
 use Rattle.plans.proofs.forecast.on_a_copy.Tie as tie

@@ -1,7 +1,7 @@
 -- `put_chain` meets its contract.
 use native.Mathlib.Omega.{arith}
 use borrow.Author.Rules.{rules}
-use Rattle.session.specs.Parts.{room_as, puts-as, count-is, not-refused, part-is}
+use Rattle.session.proofs.Parts.{room_as, puts-as, count-is, not-refused, part-is}
 use Rattle.session.proofs.chain_end.put_chain.Statement.{statement}
 use Rattle.session.proofs.chain_end.put_chain.Tie as tie
 

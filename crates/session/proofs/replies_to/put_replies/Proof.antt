@@ -6,7 +6,7 @@ use lib.ListN.{length, drop}
 use Rattle.text.specs.Puts.{left-length}
 use Rattle.chain.specs.Operations.{buffers}
 use Rattle.requests.specs.Lines.{lines}
-use Rattle.session.specs.Parts.{Running, running-start, turn-room, turn, turns-end}
+use Rattle.session.proofs.Parts.{Running, running-start, turn-room, turn, turns-end}
 use Rattle.session.proofs.replies_to.put_replies.Statement.{statement}
 use Rattle.session.proofs.replies_to.put_replies.Tie as tie
 

@@ -2,7 +2,7 @@
 use native.Mathlib.Omega.{arith}
 use mathlib.Core.Path.{refl, ◌∙◌}
 use Rattle.requests.specs.BeginningLaws.{fresh-is}
-use Rattle.session.specs.StartLaws.{fresh-room, end_reads, end-room, end-puts}
+use Rattle.session.proofs.StartLaws.{fresh-room, end_reads, end-room, end-puts}
 use borrow.Author.Rules.{rules}
 use Rattle.rights.specs.All.{granted-all}
 use Rattle.session.proofs.start.put_session.Statement.{statement}

@@ -1,5 +1,5 @@
 -- `put_ledger` meets its contract.
-use Rattle.total.specs.AnswerLaws.{line-room, line-puts, line-none}
+use Rattle.total.proofs.AnswerLaws.{line-room, line-puts, line-none}
 use borrow.Author.Rules.{rules}
 use Rattle.total.proofs.ledgers.put_ledger.Statement.{statement}
 use Rattle.total.proofs.ledgers.put_ledger.Tie as tie

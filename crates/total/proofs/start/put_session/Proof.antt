@@ -1,7 +1,7 @@
 -- `put_session` meets its contract.
 use mathlib.Core.Path.{refl, ◌∙◌}
 use Rattle.requests.specs.BeginningLaws.{fresh-is}
-use Rattle.total.specs.SummedLaws.{run-log, run_room, run-puts}
+use Rattle.total.proofs.SummedLaws.{run-log, run_room, run-puts}
 use borrow.Author.Rules.{rules}
 use Rattle.rights.specs.All.{granted-all}
 use Rattle.total.proofs.start.put_session.Statement.{statement}

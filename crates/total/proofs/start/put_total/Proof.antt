@@ -1,5 +1,5 @@
 -- `put_total` meets its contract.
-use Rattle.total.specs.AnswerLaws.{end-room, end-puts, end_none}
+use Rattle.total.proofs.AnswerLaws.{end-room, end-puts, end_none}
 use borrow.Author.Rules.{rules}
 use Rattle.total.proofs.start.put_total.Statement.{statement}
 use Rattle.total.proofs.start.put_total.Tie as tie

@@ -5,7 +5,7 @@ use mathlib.Core.Path.{◌≡◌}
 use lib.ListN.{length, drop}
 use borrow.Author.Rules.{rules}
 use Rattle.chain.specs.Values.{sum_of}
-use Rattle.chain.specs.Laws.Values.{sum_bound}
+use Rattle.chain.proofs.Laws.Values.{sum_bound}
 use Rattle.totals.specs.SumLaws.{sum-turn, sum-end}
 use Rattle.totals.proofs.sums.sum_of.Statement.{statement}
 use Rattle.totals.proofs.sums.sum_of.Tie as tie

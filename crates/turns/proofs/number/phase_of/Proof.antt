@@ -1,7 +1,7 @@
 -- `phase_of` meets its contract.
 use native.Mathlib.Omega.{arith}
 use mathlib.Core.Path.{sym}
-use Rattle.sharing.specs.Laws.Numbers.{above, no-phase}
+use Rattle.sharing.proofs.Laws.Numbers.{above, no-phase}
 use Rattle.turns.proofs.number.phase_of.Statement.{statement}
 use Rattle.turns.proofs.number.phase_of.Tie as tie
 

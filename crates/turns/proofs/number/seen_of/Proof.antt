@@ -1,7 +1,7 @@
 -- `seen_of` meets its contract.
 use native.Mathlib.Omega.{arith}
 use mathlib.Core.Path.{sym}
-use Rattle.sharing.specs.Laws.Numbers.{above, not_seen}
+use Rattle.sharing.proofs.Laws.Numbers.{above, not_seen}
 use Rattle.turns.proofs.number.seen_of.Statement.{statement}
 use Rattle.turns.proofs.number.seen_of.Tie as tie
 

@@ -1,0 +1,4 @@
+pub mod Laws
+pub mod SharedTheorem
+pub mod RowsTheorem
+pub mod Examples
