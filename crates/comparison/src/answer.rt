@@ -2,7 +2,7 @@
 use chain::answer::Answer;
 
 // The kind of an answer, the number of the entry or of the refusal, or else 0, and the entry's place in its ledger, or else 0.
-#[derive(Drop)]
+#[derive(Clone, Copy, Drop)]
 pub struct Said {
     pub answer: u64,
     pub number: u64,

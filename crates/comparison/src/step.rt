@@ -7,7 +7,7 @@ use model::memory::{COUNTS, Model, STEP, add, put};
 use model::source::{DONE, REFUSED, View};
 
 // A step by the number that the model has for it, with its client and value.
-#[derive(Drop)]
+#[derive(Clone, Copy, Drop)]
 pub struct Asked {
     pub step: u64,
     pub client: u64,

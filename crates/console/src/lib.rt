@@ -1,53 +1,91 @@
-// Reads a session's input on a file descriptor, and writes its product to standard output.
+// Reads a session's input, and writes its product.
 #![tactic(auto)]
 
-use libc::STDOUT_FILENO;
+ghost use Rattle.std.specs.Prelude.{◌≡◌, ◌≢◌, ◌<◌, ◌≤◌, IfErr, IfOk, OnOk, length, take};
+ghost use Rattle.std.specs.IoError.{error_kind};
+ghost use Rattle.std.specs.Io.KnownBytes.{Appends, Consumes, IsAtEnd};
+ghost use Rattle.session.specs.Transcript.{transcript};
+ghost use Rattle.total.specs.Output.{output};
+ghost use Rattle.console.specs.Products.{WritesProduct, product_text};
+
 use limits::{INPUT_LIMIT, RUN_TOTAL_LIMIT, TRANSCRIPT_LIMIT};
+use std::io;
+use std::io::{ErrorKind, Read, Write};
 use text::lent::Printed;
 
 // What is printed: the transcript of the session, or its run total.
-#[derive(Drop)]
+#[derive(Clone, Copy, Drop)]
 pub enum Product {
     Transcript,
     Total,
 }
 
-fn print_transcript(input: &[u8]) -> bool {
-    let mut text = [0u8; TRANSCRIPT_LIMIT];
+// Reads until the buffer is full or the input ends, and again where a signal interrupts it.
+fn read_input<R: Read>(reader: &mut R, input: &mut [u8]) -> io::Result<usize>
+    ensures bound { IfOk result (λ n. n ≤ length input.new) }
+    ensures bytes { IfOk result (λ n. Consumes (R.remaining reader.old) (R.remaining reader.new) (take n input.new)) }
+    ensures end { IfOk result (λ n. n < length input.new → IsAtEnd (R.remaining reader.new)) }
+    ensures retried { IfErr result (λ e. error_kind e ≢ ErrorKind.Interrupted) }
+{
+    let mut n = 0;
+    for _ in 0..u64::MAX {
+        if n >= input.len() {
+            return Ok(n);
+        }
+        match reader.read(&mut input[n..]) {
+            Ok(0) => return Ok(n),
+            Ok(count) => n += count,
+            Err(e) => {
+                if e.kind() != ErrorKind::Interrupted {
+                    return Err(e);
+                }
+            }
+        }
+    }
+    Err(ErrorKind::TimedOut.into())
+}
+
+// Bytes that a text is written over.
+fn blank<const N: usize>() -> [u8; N]
+    ensures { length result ≡ N }
+{
+    [0; N]
+}
+
+fn print_transcript<W: Write>(writer: &mut W, input: &[u8]) -> io::Result<()>
+    ensures { OnOk result (Appends (W.contents writer.old) (W.contents writer.new) (transcript input.now)) }
+{
+    let mut text = blank::<TRANSCRIPT_LIMIT>();
     match session::transcript(input, &mut text) {
-        Printed::Bytes(n) => io::write_all(STDOUT_FILENO, &text[..n]),
-        Printed::TextTooShort => false,
+        Printed::Bytes(n) => writer.write_all(&text[..n]),
+        Printed::TextTooShort => unreachable!(),
     }
 }
 
-fn print_total(input: &[u8]) -> bool {
+fn print_total<W: Write>(writer: &mut W, input: &[u8]) -> io::Result<()>
+    ensures { OnOk result (Appends (W.contents writer.old) (W.contents writer.new) (output input.now)) }
+{
     let mut text = [0u8; RUN_TOTAL_LIMIT];
     match total::run_total(input, &mut text) {
-        Printed::Bytes(n) => io::write_all(STDOUT_FILENO, &text[..n]),
-        Printed::TextTooShort => false,
+        Printed::Bytes(n) => writer.write_all(&text[..n]),
+        Printed::TextTooShort => unreachable!(),
     }
 }
 
-// Whether the whole of it was written.
-fn print(product: Product, input: &[u8]) -> bool {
+fn print<W: Write>(writer: &mut W, product: Product, input: &[u8]) -> io::Result<()>
+    ensures { OnOk result (Appends (W.contents writer.old) (W.contents writer.new) (product_text product input.now)) }
+{
     match product {
-        Product::Transcript => print_transcript(input),
-        Product::Total => print_total(input),
+        Product::Transcript => print_transcript(writer, input),
+        Product::Total => print_total(writer, input),
     }
 }
 
-// Whether all went well. What failed is said on standard error.
-pub fn run(fd: i32, product: Product) -> bool {
+// A byte more than the limit is read, so that a longer input is known to be too long. No byte after it is.
+pub fn run<R: Read, W: Write>(reader: &mut R, writer: &mut W, product: Product) -> io::Result<()>
+    ensures { OnOk result (WritesProduct product (R.remaining reader.old) (W.contents writer.old) (W.contents writer.new)) }
+{
     let mut input = [0u8; INPUT_LIMIT + 1];
-    let n = io::read_full(fd, &mut input);
-    // The count alone does not tell the end of the input from a read that failed.
-    if os::errno() != 0 {
-        os::fail(b"reading the input");
-        return false;
-    }
-    let printed = print(product, &input[..n]);
-    if !printed {
-        os::fail(b"writing the output");
-    }
-    printed
+    let n = read_input(reader, &mut input)?;
+    print(writer, product, &input[..n])
 }

@@ -9,7 +9,7 @@ use text::decimal::{Numeral, parse_decimal};
 use text::find::index_from;
 
 // A step to take, or a line that is none.
-#[derive(Drop)]
+#[derive(Clone, Copy, Drop)]
 pub enum Request {
     Take(Step),
     BadLine,

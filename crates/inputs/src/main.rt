@@ -2,46 +2,31 @@
 #![tactic(auto)]
 
 use console::Product;
-use libc::STDOUT_FILENO;
+use std::rt::Files;
+use std::{env, fs, io};
 
-fn print_heading(name: &[u8]) -> bool {
-    io::write_all(STDOUT_FILENO, b"== ")
-        && io::write_all(STDOUT_FILENO, name)
-        && io::write_all(STDOUT_FILENO, b"\n")
+fn print_heading(rt: &impl Print, name: &str) -> io::Result<()> {
+    println!(rt; "== {name}")
 }
 
-fn run_file(name: &[u8], product: Product) -> bool {
-    let fd = os::open_read(name);
-    if fd < 0 {
-        os::fail(name);
-        return false;
-    }
-    let ran = console::run(fd, product);
-    libc::close(fd);
-    ran
+fn run_file(rt: &(impl Files + Print), name: &str, product: Product) -> io::Result<()> {
+    console::run(&mut fs::open(rt, name)?, &mut io::writer(rt), product)
 }
 
-fn run_argument(i: usize) -> bool {
-    let mut name = io::buffer();
-    let n = os::arg(i, &mut name);
-    if os::errno() != 0 {
-        os::fail(b"argument");
-        return false;
-    }
-    print_heading(&name[..n])
-        && run_file(&name[..n], Product::Transcript)
-        && io::write_all(STDOUT_FILENO, b"-- total\n")
-        && run_file(&name[..n], Product::Total)
+fn run_argument(rt: &(impl Files + Print), name: &str) -> io::Result<()> {
+    print_heading(rt, name)?;
+    run_file(rt, name, Product::Transcript)?;
+    println!(rt; "-- total")?;
+    run_file(rt, name, Product::Total)
 }
 
 // A file that did not run leaves a line that no product prints.
-fn main() {
-    let count = os::arg_count();
-    let mut i: usize = 1;
-    while i < count {
-        if !run_argument(i) {
-            io::write_all(STDOUT_FILENO, b"not run\n");
+fn main(rt: HostRuntime) -> io::Result<()> {
+    for name in env::args(&rt)?.skip(1) {
+        if let Err(why) = run_argument(&rt, name.as_str()) {
+            eprintln!(rt; "{name}: {why}")?;
+            println!(rt; "not run")?;
         }
-        i += 1;
     }
+    Ok(())
 }

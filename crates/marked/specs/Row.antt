@@ -1,5 +1,5 @@
 -- A row of the table: what the definitions give, and what the reference says; and logs that are made of words, which need not come from any step.
-use Rattle.std.specs.Prelude.{ℕ, List, [], ◌∷◌, ◌++◌, take, get_or, replicate}
+use Rattle.std.specs.Prelude.{ℕ, List, ◌∷◌, ◌++◌, take, get_or, replicate}
 use Rattle.chain.specs.Answers.{answer_number}
 use Rattle.chain.specs.Steps.{Step}
 use Rattle.chain.specs.Operations.{Buffers, step_answer}

@@ -1,5 +1,5 @@
 -- What the verdict on all three buffers says to the operation that goes on from it.
-use Rattle.std.specs.Prelude.{ℕ, ◌≡◌, refl, true, false, List, [], ◌∷◌, length, get_or}
+use Rattle.std.specs.Prelude.{ℕ, ◌≡◌, true, false, List, [], length, get_or}
 use Rattle.std.proofs.Common.{sym, ap, ◌∙◌}
 use Rattle.std.proofs.Math.Bool.{not}
 use Rattle.fields.specs.Bit.{bit-true}
@@ -15,7 +15,8 @@ use Rattle.chain.specs.Verdicts.{verdict, and_then, verdict-append, verdict-pass
 use Rattle.chain.specs.Buffers.{head}
 use Rattle.chain.specs.Operations.{buffers}
 use Rattle.chain.specs.Marks.{marks_length, pairs_of, well_marked, log_count, marks_checks}
-use Rattle.chain.proofs.Laws.Formed.{Formed, formed}
+use Rattle.chain.specs.Formed.{Formed}
+use Rattle.chain.proofs.Laws.Formed.{formed}
 use Rattle.wellformed.specs.declared.Checked.{Checked}
 use Rattle.wellformed.specs.declared.Checked.TheVariants as checks
 use Rattle.wellformed.specs.Checked.{checked, the-head}

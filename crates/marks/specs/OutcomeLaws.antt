@@ -1,5 +1,5 @@
 -- What set, drop and read at a mark answer and leave, by their verdict and by the index of the mark's pair.
-use Rattle.std.specs.Prelude.{ℕ, ◌+◌, ◌-◌, ◌*◌, ◌/◌, ◌^◌, ◌<◌, ◌≤◌, ◌≡◌, refl, true, get_or, take, set}
+use Rattle.std.specs.Prelude.{ℕ, ◌+◌, ◌-◌, ◌*◌, ◌/◌, ◌^◌, ◌<◌, ◌≤◌, ◌≡◌, true, get_or, take, set}
 use native.Mathlib.Omega.{arith}
 use Rattle.std.proofs.Math.Path.{sym, ap}
 use Rattle.std.proofs.Common.{◌∙◌}
@@ -22,7 +22,7 @@ use Rattle.chain.specs.declared.answer.Verdict.TheVariants.{Pass, Refuse}
 use Rattle.chain.specs.Verdicts.{verdict, and_then, verdict-append, verdict-passes, verdict-refuses, passes-first}
 use Rattle.chain.specs.Buffers.{head}
 use Rattle.chain.specs.Operations.{buffers, cleared}
-use Rattle.chain.specs.Marks.{marks_length, count_unit, pairs_of, words_of, among, well_marked, word_of, with_mark, without_mark, log_count, set_checks, set_answer, after_set, drop_checks, drop_answer, after_drop, first_entries, mark_count, read_mark_checks, read_mark_answer, read_mark_output}
+use Rattle.chain.specs.Marks.{marks_length, count_unit, pairs_of, words_of, among, well_marked, with_mark, without_mark, log_count, set_checks, set_answer, after_set, drop_checks, drop_answer, after_drop, first_entries, mark_count, read_mark_checks, read_mark_answer, read_mark_output}
 use Rattle.chain.proofs.Laws.Formed.{formed, sized}
 use Rattle.chain.proofs.Laws.Marks.{kept-count}
 use Rattle.marks.specs.Pairs.{place_of}

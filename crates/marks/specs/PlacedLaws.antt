@@ -1,6 +1,6 @@
 -- Setting, dropping and reading a mark, by the index of its pair.
-use Rattle.std.specs.Prelude.{ℕ, zero, suc, ◌+◌, ◌*◌, ◌≡◌, refl, true, List, [], ◌∷◌, ◌++◌, eqb, length, get_or, take, drop, set}
-use Rattle.std.proofs.Common.{arith, sym, ap, ◌∙◌}
+use Rattle.std.specs.Prelude.{ℕ, zero, suc, ◌+◌, ◌*◌, ◌≡◌, refl, true, List, [], ◌∷◌, ◌++◌, eqb, length, get_or, set}
+use Rattle.std.proofs.Common.{arith, ap}
 use Rattle.std.proofs.lemmas.Bool.{false≢true}
 use Rattle.checks.specs.TestLaws.{by_bool}
 use Rattle.chain.specs.Marks.{Pair, pair, pairs_of, words_of, among, word_of, with_mark, without_mark}

@@ -1,67 +1,70 @@
 // What the program prints.
 use chain::answer::Answer;
 use comparison::difference::{DIFFERENCE, NOTHING};
-use libc::STDOUT_FILENO;
 use model::memory::{COUNTS, FOUND, Model, at};
+use std::io;
 
-pub fn say(bytes: &[u8]) {
-    io::write_all(STDOUT_FILENO, bytes);
+pub fn say(rt: &impl Print, text: &str) -> io::Result<()> {
+    rt.print(text)
 }
 
-pub fn say_number(n: u64) {
-    io::print_decimal(STDOUT_FILENO, n);
+pub fn say_number(rt: &impl Print, n: u64) -> io::Result<()> {
+    rt.print(n)
 }
 
-fn say_counted(word: &[u8], n: u64) {
-    say(word);
-    say_number(n);
+fn say_counted(rt: &impl Print, word: &str, n: u64) -> io::Result<()> {
+    say(rt, word)?;
+    say_number(rt, n)
 }
 
 // An answer as a session words it.
-fn say_answer(answer: Answer) {
+fn say_answer(rt: &impl Print, answer: Answer) -> io::Result<()> {
     match answer {
-        Answer::Done => say(b" ok\n"),
-        Answer::WasClosed => say(b" was\n"),
-        Answer::Behind => say(b" behind\n"),
+        Answer::Done => say(rt, " ok\n"),
+        Answer::WasClosed => say(rt, " was\n"),
+        Answer::Behind => say(rt, " behind\n"),
         Answer::Written(n) => {
-            say_counted(b" entry ", n.number.0);
-            say_number_line(b" place ", n.place.0)
+            say_counted(rt, " entry ", n.number.0)?;
+            say_number_line(rt, " place ", n.place.0)
         }
-        Answer::Refused(r) => say_number_line(b" ref ", chain::answer::refusal_number(r)),
+        Answer::Refused(r) => say_number_line(rt, " ref ", chain::answer::refusal_number(r)),
     }
 }
 
-pub fn say_line(label: &[u8], answer: Answer) {
-    say(label);
-    say_answer(answer);
+pub fn say_line(rt: &impl Print, label: &str, answer: Answer) -> io::Result<()> {
+    say(rt, label)?;
+    say_answer(rt, answer)
 }
 
-pub fn say_numbered_line(n: u64, answer: Answer) {
-    say_number(n);
-    say_answer(answer);
+pub fn say_numbered_line(rt: &impl Print, n: u64, answer: Answer) -> io::Result<()> {
+    say_number(rt, n)?;
+    say_answer(rt, answer)
 }
 
-pub fn say_number_line(label: &[u8], n: u64) {
-    say_counted(label, n);
-    say(b"\n");
+pub fn say_number_line(rt: &impl Print, label: &str, n: u64) -> io::Result<()> {
+    say_counted(rt, label, n)?;
+    say(rt, "\n")
 }
 
 // How many steps the model took beside the log, and whether anything differed.
-pub fn say_difference(model: &Model) {
+pub fn say_difference(rt: &impl Print, model: &Model) -> io::Result<()> {
     say_number_line(
-        b"beside the model ",
+        rt,
+        "beside the model ",
         at(model, COUNTS, comparison::difference::STEPS),
-    );
+    )?;
     if at(model, FOUND, DIFFERENCE) == NOTHING {
-        say(b"no difference\n");
+        say(rt, "no difference\n")
     } else {
         say_counted(
-            b"difference in history ",
+            rt,
+            "difference in history ",
             at(model, FOUND, comparison::difference::AT_HISTORY),
-        );
+        )?;
         say_number_line(
-            b" after step ",
+            rt,
+            " after step ",
             at(model, FOUND, comparison::difference::AT_STEP),
-        );
+        )
     }
 }

@@ -10,7 +10,7 @@ use chain::answer::Verdict;
 use limits::LARGE_CAPACITY;
 use records::layout::STATE_LENGTH;
 
-#[derive(Drop)]
+#[derive(Clone, Copy, Drop)]
 pub struct Forecast {
     pub entries: u64,
     pub ledgers: u64,

@@ -7,7 +7,7 @@ use chain::answer::{Answer, Refusal};
 use dispatch::Step;
 
 // A step to take, or a number that is none.
-#[derive(Drop)]
+#[derive(Clone, Copy, Drop)]
 pub enum Planned {
     Take(Step),
     UnknownStep,

@@ -10,14 +10,14 @@ use chain::answer::Answer;
 use grammar::Request;
 
 // The answer of a step, or that no step was taken.
-#[derive(Drop)]
+#[derive(Clone, Copy, Drop)]
 pub enum Reply {
     Answered(Answer),
     NoStep,
 }
 
 // The reply to a line, and where the next line begins.
-#[derive(Drop)]
+#[derive(Clone, Copy, Drop)]
 pub struct Taken {
     pub reply: Reply,
     pub next: usize,

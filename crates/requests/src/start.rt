@@ -11,7 +11,7 @@ use text::decimal::Numeral;
 pub const CAPACITY: usize = LARGE_CAPACITY;
 
 // No session, or its client count and where the lines after the first begin.
-#[derive(Drop)]
+#[derive(Clone, Copy, Drop)]
 pub enum Start {
     TooLong,
     BadStart,

@@ -1,3 +1,4 @@
-pub mod ReadingLaws
+pub mod TablesApart
 pub mod SaidLaws
+pub mod ReadingLaws
 pub mod SentencesTheorem

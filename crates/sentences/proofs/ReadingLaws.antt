@@ -24,7 +24,8 @@ use Rattle.sentences.specs.Phrases.{step_names, reasons, step_name, reason}
 use Rattle.sentences.specs.Sentences.{sentence}
 use Rattle.sentences.specs.Read.{begins, after_phrase, first_of, says, read_reason, read_colon, read_number, read_client, read_tail, read_sentence}
 use Rattle.sentences.specs.ApartLaws.{same_place}
-use Rattle.sentences.specs.PhraseTableLaws.{name-count, reason-count, names_apart, reasons-apart}
+use Rattle.sentences.specs.PhraseTableLaws.{name-count, reason-count}
+use Rattle.sentences.proofs.TablesApart.{names_apart, reasons-apart}
 use Rattle.sentences.specs.SentencesPromise.{Numbers}
 
 -- A phrase at the beginning.

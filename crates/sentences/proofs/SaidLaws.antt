@@ -8,7 +8,6 @@ use Rattle.text.specs.Puts.{Puts, Room}
 use Rattle.checks.specs.Test.{less, test, Fails}
 use Rattle.checks.specs.TestLaws.{holds-true, fails-false, false-fails}
 use Rattle.chain.specs.declared.answer.Refusal.TheVariants.{TextTooShort, NoSentence}
-use Rattle.sentences.specs.declared.answer.SentenceAnswer.{SentenceAnswer}
 use Rattle.sentences.specs.declared.answer.SentenceAnswer.TheVariants.{Length, Refused}
 use Rattle.sentences.specs.Sentences.{sentence, fewest_bytes, unsaid, sentence_answer, sentence_text}
 use Rattle.sentences.specs.LengthLaws.{sentence-length}

@@ -1,11 +1,10 @@
--- The tables of phrases, tested once by computing: how many there are, the bytes of each, and that any two are apart.
+-- The tables of phrases, tested once by computing: how many there are, and the bytes of each.
 use Rattle.std.specs.Prelude.{ℕ, zero, suc, ◌<◌, ◌≤◌, ◌≡◌, refl, Bool, true, ◌&&◌, List, [], ◌∷◌, length, get_or}
 use Rattle.std.proofs.Common.{arith}
 use Rattle.std.proofs.Math.Bool.{and-eq-true_iff}
 use Rattle.checks.specs.Test.{every_from, test, Holds}
 use Rattle.checks.specs.TestLaws.{true-holds}
 use Rattle.sentences.specs.Phrases.{step_names, reasons, step_name, reason, phrase_test, longest_name, longest_reason}
-use Rattle.sentences.specs.ApartLaws.{apart, apart_from_all, all_apart}
 
 passes_all : ℕ → List (List ℕ) → Bool
 passes_all longest [] = true
@@ -33,14 +32,6 @@ names-pass = refl
 reasons-pass : passes_all longest_reason reasons ≡ true
 unfolding passes_all reasons every_from
 reasons-pass = refl
-
-pub names_apart : all_apart step_names ≡ true
-unfolding apart apart_from_all all_apart step_names
-names_apart = refl
-
-pub reasons-apart : all_apart reasons ≡ true
-unfolding apart apart_from_all all_apart reasons
-reasons-apart = refl
 
 pub name-holds : (step : ℕ) → step ≤ 9 → Holds (phrase_test longest_name (step_name step))
 unfolding step_name

@@ -2,14 +2,14 @@
 use chain::answer::Refusal;
 
 // The sentence's length in bytes, or the refusal.
-#[derive(Drop)]
+#[derive(Clone, Copy, Drop)]
 pub enum SentenceAnswer {
     Length(u64),
     Refused(Refusal),
 }
 
 // The numbers of a step, of a client and of a refusal.
-#[derive(Drop)]
+#[derive(Clone, Copy, Drop)]
 pub struct SentenceNumbers {
     pub step: u64,
     pub client: u64,
@@ -17,7 +17,7 @@ pub struct SentenceNumbers {
 }
 
 // What a text says that is exactly a sentence, or that it is none.
-#[derive(Drop)]
+#[derive(Clone, Copy, Drop)]
 pub enum SentenceRead {
     Says(SentenceNumbers),
     NotSentence,

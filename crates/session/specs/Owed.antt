@@ -1,4 +1,5 @@
-use Rattle.std.specs.Prelude.{ℕ, ◌+◌, ◌≤◌, ◌≡◌, List, ◌++◌, length, drop}
+-- What the parts of a session's code owe: the replies to all lines, the chain at the end.
+use Rattle.std.specs.Prelude.{ℕ, ◌≤◌, ◌≡◌, List, ◌++◌, length, drop}
 use Rattle.text.specs.Puts.{Left}
 use Rattle.chain.specs.declared.answer.ChainAnswer.TheVariants.{Count}
 use Rattle.chain.specs.Operations.{Buffers, after_steps, chain_reading, read_chain_answer, read_chain_output}

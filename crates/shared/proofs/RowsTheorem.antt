@@ -1,17 +1,15 @@
 -- The promises of RowsPromise hold.
-use Rattle.std.specs.Prelude.{ℕ, zero, suc, ◌+◌, ◌*◌, ◌/◌, ◌%◌, ◌^◌, ◌<◌, ◌≡◌, refl, List, [], ◌∷◌, ◌++◌, map, ◌⊎◌, length, take}
+use Rattle.std.specs.Prelude.{ℕ, zero, suc, ◌+◌, ◌*◌, ◌/◌, ◌%◌, ◌^◌, ◌<◌, ◌≡◌, refl, List, [], ◌∷◌, ◌++◌, ◌⊎◌, length, take}
 use Rattle.std.proofs.Common.{arith, sym, ap, subst, ◌∙◌, length-append}
 use Rattle.std.proofs.Math.Option.{Option, none, some}
 use Rattle.std.proofs.lemmas.List.{length-map}
-use Rattle.chain.specs.declared.answer.Answer.{Answer}
-use Rattle.chain.specs.Steps.{Kind, name, become, abdicate, fetch, close_last, finish, create, append, close_own, write, Content, of_value, of_scores}
-use Rattle.sharing.specs.Places.{At, In}
+use Rattle.chain.specs.Steps.{name, become, abdicate, fetch, close_last, finish, create, append, close_own, write, of_value, of_scores}
+use Rattle.sharing.specs.Places.{At}
 use Rattle.sharing.proofs.Laws.Places.{at_map}
 use Rattle.sharing.specs.Sharing.{Row, row, Telling, State, Reachable}
-use Rattle.sharing.specs.Losing.{Contents, table, chain_value, Agrees, Collision, known_to, table_place}
+use Rattle.sharing.specs.Losing.{Contents, table, Collision}
 use Rattle.sharing.proofs.LosingTheorem.{told-is-kept}
-use Rattle.shared.specs.Shared.{Kept, Change, step, set_mark, drop_mark, set_rights, run_log, changes, spot}
-use Rattle.shared.specs.SharedPromise.{Single}
+use Rattle.shared.specs.Shared.{Kept, Change, step, set_mark, drop_mark, set_rights, run_log, changes}
 use Rattle.shared.specs.Rows.{TableRow, rows_from, bytes, number_from, number, score_bytes, scores, row_kind, row_client, row_input, contents, table_of, change_of, with_change, row_of, Short, ChangeFits, RowFits}
 use Rattle.shared.specs.RowsPromise.{RowsReadBack, StepsAreKept}
 

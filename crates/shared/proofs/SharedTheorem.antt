@@ -1,6 +1,6 @@
 -- The promises of SharedPromise hold.
-use Rattle.std.specs.Prelude.{ℕ, zero, suc, ◌+◌, ◌<◌, ◌≤◌, ◌≡◌, refl, true, false, cond, List, [], ◌∷◌, ◌++◌, map, ◌⊎◌, length, take, drop, eqb}
-use Rattle.std.proofs.Common.{arith, sym, ap, subst, subst₂, ◌∙◌, inl, inr, ⊎_elim, take-append-drop, eqb-true}
+use Rattle.std.specs.Prelude.{ℕ, zero, suc, ◌<◌, ◌≡◌, refl, true, false, List, [], ◌∷◌, map, ◌⊎◌, length, take, drop, eqb}
+use Rattle.std.proofs.Common.{arith, sym, ap, subst, subst₂, ◌∙◌, ⊎_elim, take-append-drop, eqb-true}
 use Rattle.std.proofs.lemmas.Bool.{false≢true}
 use Rattle.checks.specs.TestLaws.{by_bool}
 use Rattle.checks.specs.Checks.{first-refused}
@@ -18,7 +18,7 @@ use Rattle.chain.proofs.MarkingTheorem.{marks-hold}
 use Rattle.chain.proofs.GrowingTheorem.{readings-grow}
 use Rattle.sharing.specs.Places.{At, In}
 use Rattle.sharing.proofs.Laws.Places.{at_less, at_some, at_one}
-use Rattle.sharing.specs.Sharing.{Row, replay, log_at, Append, row, Telling, Denied, State, initial, Accepts, Move, ask, look, read, refuse, send, store, tell, leave, crash, halt, Run, here, on, Reachable}
+use Rattle.sharing.specs.Sharing.{Row, replay, log_at, Append, row, Telling, State, initial, Move, ask, look, read, refuse, send, store, tell, leave, crash, halt, Run, here, on, Reachable}
 use Rattle.sharing.specs.SharingPromise.{IsReply, CopiesAreFirstParts}
 use Rattle.sharing.proofs.SharingTheorem.{told-is-replay, told-once, copies-are-first-parts}
 use Rattle.sharing.proofs.Laws.Invariant.{reachable-invariant}
@@ -60,23 +60,23 @@ some-step (x ∷ xs) m e = omega arith
 abbrev SomeSteps : State run_log → Type 0
 SomeSteps s = (m : Append run_log) → In m s.sent → 0 < length m.asking.request
 
-move-steps : (base : Kept) (s t : State run_log) (c : ℕ) → Move {M = run_log} base s c t → SomeSteps s → SomeSteps t
-move-steps base s t c (ask x p) h = h
-move-steps base s t c (look n runs k w f) h = h
-move-steps base s t c (read a l n p k e w) h = h
-move-steps base s t c (refuse a p e) h = h
-move-steps base s t c (send a l id p ok new) h = λ m i. ⊎_elim
+move-steps : (base : Kept) (s : State run_log) (c : ℕ) (t : State run_log) → Move {M = run_log} base s c t → SomeSteps s → SomeSteps t
+move-steps base s c t (ask x p) h = h
+move-steps base s c t (look n runs k w f) h = h
+move-steps base s c t (read a l n p k e w) h = h
+move-steps base s c t (refuse a p e) h = h
+move-steps base s c t (send a l id p ok new) h = λ m i. ⊎_elim
     (λ (q : m ≡ _). subst (λ (x : Append run_log). 0 < length x.asking.request) (sym q) (some-step a.request (s.controllers c).copy ok))
     (λ (o : In m s.sent). h m o) i
-move-steps base s t c (store m i q e) h = h
-move-steps base s t c (tell m r p i e) h = h
-move-steps base s t c (leave runs) h = h
-move-steps base s t c crash h = h
-move-steps base s t c halt h = h
+move-steps base s c t (store m i q e) h = h
+move-steps base s c t (tell m r p i e) h = h
+move-steps base s c t (leave runs) h = h
+move-steps base s c t crash h = h
+move-steps base s c t halt h = h
 
 run-steps : (base : Kept) (s t : State run_log) → Run {M = run_log} base s t → SomeSteps s → SomeSteps t
 run-steps base s t here h = h
-run-steps base s t (on {t = u} c r m) h = move-steps base u t c m (run-steps base s u r h)
+run-steps base s t (on {t = u} c r m) h = move-steps base u c t m (run-steps base s u r h)
 
 module _ (base : Kept) (s : State run_log) (reached : Reachable {M = run_log} base s) where
   has-step : (i : ℕ) (r : Row run_log) → At s.rows i r → 0 < length r.request

@@ -1,5 +1,5 @@
 -- What the shared run log promises, step by step. SharedTheorem proves each.
-use Rattle.std.specs.Prelude.{ℕ, ◌<◌, ◌≤◌, ◌≡◌, ◌⊎◌, List, map, length, take}
+use Rattle.std.specs.Prelude.{ℕ, ◌<◌, ◌≤◌, ◌≡◌, ◌⊎◌, map, length, take}
 use Rattle.chain.specs.declared.answer.Refusal.{Refusal}
 use Rattle.chain.specs.declared.answer.Position.{Position}
 use Rattle.chain.specs.declared.answer.Answer.{Answer}
@@ -8,7 +8,7 @@ use Rattle.chain.specs.Answers.{is_refused}
 use Rattle.chain.specs.Steps.{write, Content, amount}
 use Rattle.chain.specs.Operations.{Buffers, chain_reading}
 use Rattle.sharing.specs.Places.{At, In}
-use Rattle.sharing.specs.Sharing.{Row, replay, Telling, Denied, State, Run}
+use Rattle.sharing.specs.Sharing.{replay, Telling, Denied, State, Run}
 use Rattle.shared.specs.Shared.{Kept, Change, step, change_answer, after_change, change_answers, run_log, changes, writes, read_word, spot, index}
 
 -- The j-th step of a request that was told, and its answer; and that of a write which was told as stored.

@@ -1,5 +1,5 @@
 -- The promise of EndingPromise holds.
-use Rattle.std.specs.Prelude.{ℕ, zero, suc, ◌+◌, ◌<◌, ◌≤◌, ◌≡◌, refl, Bool, true, false, List, ◌⊎◌, length}
+use Rattle.std.specs.Prelude.{ℕ, zero, suc, ◌<◌, ◌≤◌, ◌≡◌, refl, Bool, true, false, List, ◌⊎◌, length}
 use Rattle.std.proofs.Common.{arith, sym, ap, subst, ◌∙◌, inl, inr}
 use Rattle.checks.specs.Test.{at_most}
 use Rattle.checks.specs.TestLaws.{by_bool, by-test}
@@ -13,7 +13,7 @@ use Rattle.sharing.specs.Turns.{when_accepted, turn}
 use Rattle.sharing.proofs.Laws.Turns.{accepted-some, next-own, placed-next, placed-further}
 use Rattle.sharing.specs.Places.{At, In}
 use Rattle.sharing.proofs.Laws.Places.{at_less, at_new}
-use Rattle.sharing.specs.Sharing.{Machine, Accepts, Refuses, Row, Asking, Append, row, Phase, idle, asked, waiting, halted, Controller, State, with_row, Free, FreeFrom, Move, store, Reachable, Around, Alone, none, more}
+use Rattle.sharing.specs.Sharing.{Machine, Row, Asking, Append, row, Phase, idle, asked, waiting, halted, Controller, State, with_row, Free, store, Reachable, Around, Alone, none, more}
 use Rattle.sharing.proofs.Laws.Invariant.{Invariant, PhaseRight, AskedRight, Ahead, apart-phases, same-append, move-invariant, reachable-invariant}
 use Rattle.sharing.proofs.SharingTheorem.{new-id, find-id, around-same, around-invariant, around-grows}
 use Rattle.sharing.specs.Driving.{shown, Sees, reads-asked, comes-to, places, accepts, refuses, Stays, Turned}

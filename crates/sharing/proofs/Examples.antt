@@ -1,9 +1,9 @@
 -- A run in which two controllers race: both requests have rows, and the second is refused in its place, and told so.
 use Rattle.std.specs.Prelude.{ℕ, zero, suc, ◌≡◌, refl, Bool, true, false, List, [], ◌∷◌}
-use Rattle.std.proofs.Common.{arith, sym, ap, ◌∙◌, inl, inr, ⊎_elim}
+use Rattle.std.proofs.Common.{arith, ap, ◌∙◌, inl, inr, ⊎_elim}
 use Rattle.chain.specs.Log.{put}
-use Rattle.sharing.specs.Places.{At, In}
-use Rattle.sharing.specs.Sharing.{Machine, Row, replay, Append, Telling, State, Free, FreeFrom, Move, ask, look, send, store, tell, Run, here, on, Reachable}
+use Rattle.sharing.specs.Places.{In}
+use Rattle.sharing.specs.Sharing.{Machine, Row, replay, Append, Telling, State, Free, FreeFrom, ask, look, send, store, tell, here, on, Reachable}
 use Rattle.sharing.proofs.Laws.Invariant.{same-append}
 
 -- A log that takes one request, and refuses all others.

@@ -1,6 +1,6 @@
 -- The proofs of what the theorems need.
-pub mod Invariant
+pub mod Turns
 pub mod Numbers
 pub mod Places
-pub mod Turns
+pub mod Invariant
 pub mod Withdrawn

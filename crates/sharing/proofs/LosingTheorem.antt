@@ -1,5 +1,5 @@
 -- The promises of LosingPromise hold.
-use Rattle.std.specs.Prelude.{ℕ, zero, suc, ◌+◌, ◌<◌, ◌≤◌, ◌≡◌, ◌⊎◌, length, take}
+use Rattle.std.specs.Prelude.{ℕ, suc, ◌+◌, ◌<◌, ◌≤◌, ◌≡◌, ◌⊎◌, length, take}
 use Rattle.std.proofs.Common.{arith, ◌∙◌, length-append, take-append-drop, take_all, take-take, length-take-le}
 use Rattle.std.proofs.Math.Path.{refl, sym, ap, subst}
 use mathlib.Core.List.{List, [], ◌∷◌, ◌++◌, append_assoc}
@@ -15,7 +15,7 @@ use Rattle.sharing.specs.declared.controller.Phase.TheVariants as phases
 use Rattle.sharing.specs.declared.controller.Seen.TheVariants.{OtherHistory}
 use Rattle.sharing.specs.Turns.{turn}
 use Rattle.sharing.specs.Places.{At, In}
-use Rattle.sharing.proofs.Laws.Places.{at_less, at-append, at_right, at_split, at_take, at-untake}
+use Rattle.sharing.proofs.Laws.Places.{at-append, at_right, at_split, at_take, at-untake}
 use Rattle.sharing.specs.Sharing.{Machine, Row, row, Telling, Controller, State, Move, ask, look, read, refuse, send, store, tell, leave, crash, halt, Run, Reachable}
 use Rattle.sharing.specs.Losing.{Contents, table, chain_value, Agrees, Collision, known_to, table_place, Spares, Steady, next}
 use Rattle.sharing.specs.Losing as losing
@@ -138,21 +138,21 @@ module _ {M : Machine} (base : M.Log) (c : ℕ) where
   same_known : (s : State M) (d : ℕ) → d ≡ c → (s.controllers c).known ≤ (s.controllers d).known
   same_known s d e = let q : (s.controllers d).known ≡ (s.controllers c).known = ap (λ (j : ℕ). (s.controllers j).known) e in omega (arith, q)
 
-  known-grows : (s t : State M) (d : ℕ) (m : Move base s d t) → Spares c m → (s.controllers c).known ≤ (t.controllers c).known
-  known-grows s t d (ask x p) o = grows-by s t d _ refl (same_known s d)
-  known-grows s t d (look n runs k w g) o = grows-by s t d _ refl (λ e. let q = same_known s d e in omega (arith, q, k))
-  known-grows s t d (read a l n p k e w) o = grows-by s t d _ refl (λ e. let q = same_known s d e in omega (arith, q, k))
-  known-grows s t d (refuse a p e) o = grows-by s t d _ refl (same_known s d)
-  known-grows s t d (send a l id p ok new) o = grows-by s t d _ refl (same_known s d)
-  known-grows s t d (store m i q e) o = omega arith
-  known-grows s t d (tell m r p i e) o = grows-by s t d _ refl (λ e. let q = same_known s d e in omega (arith, q))
-  known-grows s t d (leave runs) o = grows-by s t d _ refl (same_known s d)
-  known-grows s t d crash o = grows-by s t d _ refl (λ e. absurd (o e))
-  known-grows s t d halt o = grows-by s t d _ refl (same_known s d)
+  known-grows : (s : State M) (d : ℕ) (t : State M) (m : Move base s d t) → Spares c m → (s.controllers c).known ≤ (t.controllers c).known
+  known-grows s d t (ask x p) o = grows-by s t d _ refl (same_known s d)
+  known-grows s d t (look n runs k w g) o = grows-by s t d _ refl (λ e. let q = same_known s d e in omega (arith, q, k))
+  known-grows s d t (read a l n p k e w) o = grows-by s t d _ refl (λ e. let q = same_known s d e in omega (arith, q, k))
+  known-grows s d t (refuse a p e) o = grows-by s t d _ refl (same_known s d)
+  known-grows s d t (send a l id p ok new) o = grows-by s t d _ refl (same_known s d)
+  known-grows s d t (store m i q e) o = omega arith
+  known-grows s d t (tell m r p i e) o = grows-by s t d _ refl (λ e. let q = same_known s d e in omega (arith, q))
+  known-grows s d t (leave runs) o = grows-by s t d _ refl (same_known s d)
+  known-grows s d t crash o = grows-by s t d _ refl (λ e. absurd (o e))
+  known-grows s d t halt o = grows-by s t d _ refl (same_known s d)
 
   steady-grows : (s t : State M) → Steady base c s t → (s.controllers c).known ≤ (t.controllers c).known
   steady-grows s t losing.same = omega arith
-  steady-grows s t (next {t = u} d r m o) = let q = steady-grows s u r in let w = known-grows u t d m o in omega (arith, q, w)
+  steady-grows s t (next {t = u} d r m o) = let q = steady-grows s u r in let w = known-grows u d t m o in omega (arith, q, w)
 
   -- What it has told is known to it.
   told-known : (s t : State M) → Move base s c t → (k : Telling M) → t.told ≡ k ∷ s.told → k.place < (t.controllers c).known

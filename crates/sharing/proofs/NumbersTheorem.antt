@@ -1,5 +1,5 @@
 -- The promise of NumbersPromise holds.
-use Rattle.std.specs.Prelude.{ℕ, ◌≡◌, refl, List, [], ◌∷◌, get_or}
+use Rattle.std.specs.Prelude.{ℕ, ◌≡◌, refl, [], ◌∷◌, get_or}
 use Rattle.std.proofs.Common.{sym, ap, ◌∙◌}
 use Rattle.sharing.specs.declared.controller.Phase.{Phase}
 use Rattle.sharing.specs.declared.controller.Phase.TheVariants as phases

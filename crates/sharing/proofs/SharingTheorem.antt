@@ -1,5 +1,5 @@
 -- The promises of SharingPromise hold.
-use Rattle.std.specs.Prelude.{ℕ, zero, suc, ◌+◌, ◌<◌, ◌≤◌, ◌≡◌, refl, Bool, true, false, List, [], ◌∷◌, ◌++◌, map, ◌⊎◌, length, take}
+use Rattle.std.specs.Prelude.{ℕ, zero, suc, ◌+◌, ◌<◌, ◌≤◌, ◌≡◌, refl, Bool, true, List, [], ◌∷◌, ◌++◌, map, ◌⊎◌, length}
 use Rattle.std.proofs.Common.{arith, sym, ap, subst, ◌∙◌, inl, inr, ⊎_elim, length-append, take_all}
 use Rattle.std.proofs.lemmas.List.{length-map}
 use Rattle.checks.specs.Test.{same, less}
@@ -7,11 +7,11 @@ use Rattle.checks.specs.TestLaws.{by_bool, by-test}
 use Rattle.chain.proofs.Laws.Lists.{put_same, put_other}
 use Rattle.sharing.specs.Places.{At, In}
 use Rattle.sharing.proofs.Laws.Places.{at_less, at_one, at_new, in_map, in_left, in_right, covers}
-use Rattle.sharing.specs.Sharing.{Machine, Accepts, Refuses, Row, replay, replies, log_at, Asking, Append, row, Phase, idle, asked, waiting, halted, Controller, Telling, Denied, State, with_controller, with_sent, with_row, in_phase, reading, passing, starting, Runs, append, Free, FreeFrom, Move, ask, look, read, refuse, send, store, tell, leave, crash, halt, Run, here, on, Reachable, Around, nothing, other, late}
+use Rattle.sharing.specs.Sharing.{Machine, Accepts, Refuses, Row, replay, replies, log_at, Asking, Append, row, Phase, idle, asked, waiting, halted, Controller, Telling, Denied, State, with_controller, with_sent, with_row, in_phase, reading, starting, Runs, append, Free, Move, ask, look, read, refuse, send, store, tell, leave, crash, halt, Run, here, on, Reachable, Around, nothing, other, late}
 use Rattle.sharing.proofs.Laws.Invariant as invariant
 use Rattle.sharing.proofs.Laws.Invariant.{Invariant, PhaseRight, AskedRight, Ahead, Apart, Grows, grows-not, grows_one, Owned, own_row, same-append, move-invariant, run-invariant, reachable-invariant, around-run}
 use Rattle.sharing.proofs.Laws.Withdrawn.{never-sent}
-use Rattle.sharing.specs.SharingPromise.{OneAsking, IsReply, ToldIsReplay, DifferentRows, DifferentAskings, ToldOnce, Whose, RowsAreAccounted, RealTimeOrder, RefusalsAreRight, IsTold, Within, WaitFree, CopiesAreFirstParts, HaltedIsSilent, WithdrawnHasNone}
+use Rattle.sharing.specs.SharingPromise.{IsReply, ToldIsReplay, DifferentRows, DifferentAskings, ToldOnce, Whose, RowsAreAccounted, RealTimeOrder, RefusalsAreRight, IsTold, Within, WaitFree, CopiesAreFirstParts, HaltedIsSilent, WithdrawnHasNone}
 
 -- The answers of a replay, one by one.
 answers_at : {M : Machine} (rows : List (Row M)) (b : M.Log) (i : ℕ) (r : Row M) → At rows i r → At (replies rows b) i (M.answer r.request (log_at b rows i))
@@ -45,30 +45,30 @@ module _ {M : Machine} (base : M.Log) (s : State M) (v : Invariant base s) where
   )
 
 -- The rows of a run only grow, by one at a time; and so does what was told.
-move-grows : {M : Machine} (base : M.Log) (s t : State M) (c : ℕ) → Move base s c t → Grows s.rows t.rows × (length t.rows ≤ length s.rows + 1)
-move-grows base s t c (ask x p) = (grows-not s.rows, omega arith)
-move-grows base s t c (look n runs h w f) = (grows-not s.rows, omega arith)
-move-grows base s t c (read a l n p h e w) = (grows-not s.rows, omega arith)
-move-grows base s t c (refuse a p e) = (grows-not s.rows, omega arith)
-move-grows base s t c (send a l id p ok new) = (grows-not s.rows, omega arith)
-move-grows base s t c (store m h q e) = (grows_one s.rows (row m), omega (arith, length-append s.rows (row m ∷ [])))
-move-grows base s t c (tell m r p h e) = (grows-not s.rows, omega arith)
-move-grows base s t c (leave runs) = (grows-not s.rows, omega arith)
-move-grows base s t c crash = (grows-not s.rows, omega arith)
-move-grows base s t c halt = (grows-not s.rows, omega arith)
+move-grows : {M : Machine} (base : M.Log) (s : State M) (c : ℕ) (t : State M) → Move base s c t → Grows s.rows t.rows × (length t.rows ≤ length s.rows + 1)
+move-grows base s c t (ask x p) = (grows-not s.rows, omega arith)
+move-grows base s c t (look n runs h w f) = (grows-not s.rows, omega arith)
+move-grows base s c t (read a l n p h e w) = (grows-not s.rows, omega arith)
+move-grows base s c t (refuse a p e) = (grows-not s.rows, omega arith)
+move-grows base s c t (send a l id p ok new) = (grows-not s.rows, omega arith)
+move-grows base s c t (store m h q e) = (grows_one s.rows (row m), omega (arith, length-append s.rows (row m ∷ [])))
+move-grows base s c t (tell m r p h e) = (grows-not s.rows, omega arith)
+move-grows base s c t (leave runs) = (grows-not s.rows, omega arith)
+move-grows base s c t crash = (grows-not s.rows, omega arith)
+move-grows base s c t halt = (grows-not s.rows, omega arith)
 
-move-keeps : {M : Machine} (base : M.Log) (s t : State M) (c : ℕ) → Move base s c t
+move-keeps : {M : Machine} (base : M.Log) (s : State M) (c : ℕ) (t : State M) → Move base s c t
     → ((k : Telling M) → In k s.told → In k t.told) × ((d : Denied M) → In d s.denied → In d t.denied)
-move-keeps base s t c (ask x p) = ((λ k i. i), (λ d i. i))
-move-keeps base s t c (look n runs h w f) = ((λ k i. i), (λ d i. i))
-move-keeps base s t c (read a l n p h e w) = ((λ k i. i), (λ d i. i))
-move-keeps base s t c (refuse a p e) = ((λ k i. i), (λ d i. inr i))
-move-keeps base s t c (send a l id p ok new) = ((λ k i. i), (λ d i. i))
-move-keeps base s t c (store m h q e) = ((λ k i. i), (λ d i. i))
-move-keeps base s t c (tell m r p h e) = ((λ k i. inr i), (λ d i. i))
-move-keeps base s t c (leave runs) = ((λ k i. i), (λ d i. i))
-move-keeps base s t c crash = ((λ k i. i), (λ d i. i))
-move-keeps base s t c halt = ((λ k i. i), (λ d i. i))
+move-keeps base s c t (ask x p) = ((λ k i. i), (λ d i. i))
+move-keeps base s c t (look n runs h w f) = ((λ k i. i), (λ d i. i))
+move-keeps base s c t (read a l n p h e w) = ((λ k i. i), (λ d i. i))
+move-keeps base s c t (refuse a p e) = ((λ k i. i), (λ d i. inr i))
+move-keeps base s c t (send a l id p ok new) = ((λ k i. i), (λ d i. i))
+move-keeps base s c t (store m h q e) = ((λ k i. i), (λ d i. i))
+move-keeps base s c t (tell m r p h e) = ((λ k i. inr i), (λ d i. i))
+move-keeps base s c t (leave runs) = ((λ k i. i), (λ d i. i))
+move-keeps base s c t crash = ((λ k i. i), (λ d i. i))
+move-keeps base s c t halt = ((λ k i. i), (λ d i. i))
 
 grows-on : {M : Machine} (a b c : List (Row M)) → Grows a b → Grows b c → Grows a c
 grows-on a b c h k = record {
@@ -79,22 +79,22 @@ grows-on a b c h k = record {
 
 pub run-grows : {M : Machine} (base : M.Log) (s t : State M) → Run base s t → Grows s.rows t.rows
 run-grows base s t here = grows-not s.rows
-run-grows base s t (on {t = u} c r m) = grows-on s.rows u.rows t.rows (run-grows base s u r) (move-grows base u t c m).0
+run-grows base s t (on {t = u} c r m) = grows-on s.rows u.rows t.rows (run-grows base s u r) (move-grows base u c t m).0
 
 told-kept : {M : Machine} (base : M.Log) (s t : State M) → Run base s t → (k : Telling M) → In k s.told → In k t.told
 told-kept base s t here k i = i
-told-kept base s t (on {t = u} c r w) k i = (move-keeps base u t c w).0 k (told-kept base s u r k i)
+told-kept base s t (on {t = u} c r w) k i = (move-keeps base u c t w).0 k (told-kept base s u r k i)
 
 denied-kept : {M : Machine} (base : M.Log) (s t : State M) → Run base s t → (d : Denied M) → In d s.denied → In d t.denied
 denied-kept base s t here d i = i
-denied-kept base s t (on {t = u} c r w) d i = (move-keeps base u t c w).1 d (denied-kept base s u r d i)
+denied-kept base s t (on {t = u} c r w) d i = (move-keeps base u c t w).1 d (denied-kept base s u r d i)
 
 -- A run comes through every number of rows.
 moment : {M : Machine} (base : M.Log) (s t : State M) → Run base s t → (n : ℕ) → length s.rows ≤ n → n ≤ length t.rows
     → (u : State M) × Run base s u × Run base u t × (length u.rows ≡ n)
 moment base s t here n h w = (s, here, here, omega arith)
 moment base s t (on {t = u} c r m) n h w = by-test (less (length u.rows) n)
-    (λ (q : length u.rows < n). (t, on c r m, here, omega (arith, (move-grows base u t c m).1)))
+    (λ (q : length u.rows < n). (t, on c r m, here, omega (arith, (move-grows base u c t m).1)))
     (λ (q : n ≤ length u.rows). let o = moment base s u r n h q in (o.0, o.1, on c o.2 m, o.3))
 
 module _ {M : Machine} (base : M.Log) (s : State M) (r : Reachable base s) where
@@ -225,21 +225,21 @@ find-id {M} (x ∷ rows) id = by-test (same x.id id) (λ (e : x.id ≡ id). inl 
     on-rows e (inr f) = inr (none e f)
 
 -- Others' moves leave a controller as it is.
-others-move : {M : Machine} (base : M.Log) (s t : State M) (c d : ℕ) → (d ≡ c → ⊥) → Move base s d t → t.controllers c ≡ s.controllers c
-others-move base s t c d w (ask x p) = put_other s.controllers d _ c (λ e. w (sym e))
-others-move base s t c d w (look n runs h k f) = put_other s.controllers d _ c (λ e. w (sym e))
-others-move base s t c d w (read a l n p h e k) = put_other s.controllers d _ c (λ e. w (sym e))
-others-move base s t c d w (refuse a p e) = put_other s.controllers d _ c (λ e. w (sym e))
-others-move base s t c d w (send a l id p ok new) = put_other s.controllers d _ c (λ e. w (sym e))
-others-move base s t c d w (store m h q e) = refl
-others-move base s t c d w (tell m r p h e) = put_other s.controllers d _ c (λ e. w (sym e))
-others-move base s t c d w (leave runs) = put_other s.controllers d _ c (λ e. w (sym e))
-others-move base s t c d w crash = put_other s.controllers d _ c (λ e. w (sym e))
-others-move base s t c d w halt = put_other s.controllers d _ c (λ e. w (sym e))
+others-move : {M : Machine} (base : M.Log) (s : State M) (c d : ℕ) (t : State M) → (d ≡ c → ⊥) → Move base s d t → t.controllers c ≡ s.controllers c
+others-move base s c d t w (ask x p) = put_other s.controllers d _ c (λ e. w (sym e))
+others-move base s c d t w (look n runs h k f) = put_other s.controllers d _ c (λ e. w (sym e))
+others-move base s c d t w (read a l n p h e k) = put_other s.controllers d _ c (λ e. w (sym e))
+others-move base s c d t w (refuse a p e) = put_other s.controllers d _ c (λ e. w (sym e))
+others-move base s c d t w (send a l id p ok new) = put_other s.controllers d _ c (λ e. w (sym e))
+others-move base s c d t w (store m h q e) = refl
+others-move base s c d t w (tell m r p h e) = put_other s.controllers d _ c (λ e. w (sym e))
+others-move base s c d t w (leave runs) = put_other s.controllers d _ c (λ e. w (sym e))
+others-move base s c d t w crash = put_other s.controllers d _ c (λ e. w (sym e))
+others-move base s c d t w halt = put_other s.controllers d _ c (λ e. w (sym e))
 
 pub around-same : {M : Machine} (base : M.Log) (c : ℕ) (s t : State M) → Around base c s t → t.controllers c ≡ s.controllers c
 around-same base c s t nothing = refl
-around-same base c s t (other {t = u} d w r m) = others-move base u t c d w m ∙ around-same base c s u r
+around-same base c s t (other {t = u} d w r m) = others-move base u c d t w m ∙ around-same base c s u r
 around-same base c s t (late {t = u} m r i e f) = around-same base c s u r
 
 pub around-invariant : {M : Machine} (base : M.Log) (c : ℕ) (s t : State M) → Invariant base s → Around base c s t → Invariant base t

@@ -2,7 +2,7 @@
 --
 -- Each row of the table carries a chain value, by any function of the value before it and of the row's contents. With each call a controller says how many
 -- rows it knows, and the chain value of the last; the engine does what is asked only where its own rows have this value there.
-use Rattle.std.specs.Prelude.{ℕ, ◌+◌, ◌≤◌, ◌≡◌, List, [], ◌∷◌, ◌++◌, length, take}
+use Rattle.std.specs.Prelude.{ℕ, ◌≤◌, ◌≡◌, List, [], ◌∷◌, ◌++◌, length, take}
 use Rattle.sharing.specs.Sharing.{Machine, Row, State, Move, ask, look, read, refuse, send, store, tell, leave, crash, halt}
 
 -- The contents of a row of the table, as numbers. A row of the system is one row of the table or more: a request has one for each of its steps.

@@ -1,6 +1,6 @@
 // A controller of a shared log: its phase, the events, and what to do next.
 
-#[derive(Drop)]
+#[derive(Clone, Copy, Drop)]
 pub enum Phase {
     // It has nothing to do.
     Idle,
@@ -14,7 +14,7 @@ pub enum Phase {
     Halted,
 }
 
-#[derive(Drop)]
+#[derive(Clone, Copy, Drop)]
 pub enum Seen {
     // Somebody asks for a request.
     Asked,
@@ -36,7 +36,7 @@ pub enum Seen {
     OtherHistory,
 }
 
-#[derive(Drop)]
+#[derive(Clone, Copy, Drop)]
 pub enum Act {
     Nothing,
     // Read the rows after those known, and take their steps on the copy; but not past a row with the awaited id.
@@ -55,7 +55,7 @@ pub enum Act {
     Unknown,
 }
 
-#[derive(Drop)]
+#[derive(Clone, Copy, Drop)]
 pub struct Turn {
     pub phase: Phase,
     pub act: Act,

@@ -1,6 +1,5 @@
 -- What the code does at the lengths that are refused, and at those that are taken.
-use Rattle.std.specs.Prelude.{◌≡◌, ℕ, ◌*◌, ◌≤◌, Bool, true, false, List, length}
-use Rattle.std.proofs.Common.{sym}
+use Rattle.std.specs.Prelude.{◌≡◌, ℕ, ◌*◌, ◌≤◌, true, false, List, length}
 use Rattle.checks.specs.Test.{test}
 use Rattle.checks.specs.TestLaws.{false-fails}
 use Rattle.chain.specs.declared.answer.Refusal.TheVariants.{StorageLength}

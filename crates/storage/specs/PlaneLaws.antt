@@ -1,5 +1,5 @@
 -- The planes of some numbers, joined, are these numbers; and numbers that are joined from planes have these planes.
-use Rattle.std.specs.Prelude.{◌≡◌, ℕ, zero, suc, ◌+◌, ◌*◌, ◌/◌, ◌%◌, ◌^◌, ◌<◌, List, [], ◌∷◌, ◌++◌, map, length, take, drop, nat_lt, slice_index}
+use Rattle.std.specs.Prelude.{◌≡◌, ℕ, zero, suc, ◌+◌, ◌*◌, ◌/◌, ◌%◌, ◌^◌, ◌<◌, List, [], ◌∷◌, ◌++◌, length, take, drop, nat_lt, slice_index}
 use native.Mathlib.Omega.{arith}
 use Rattle.std.proofs.Math.Nat.{mod-one, one-le-pow, pow-succ', suc-mul}
 use Rattle.std.proofs.Common.{mod-lt, mod-eq_of_lt, zero-mul, zero-add, ap, subst, ◌∙◌, length-append, length-drop, take-append-drop, ltb-true, ltb-false, drop_at, get_or-append-add, get_or-take, get_or-drop}

@@ -4,7 +4,7 @@ use Rattle.std.proofs.Common.{arith, add-one, ◌∙◌, append-nil, append_asso
 use Rattle.std.proofs.Math.Path.{refl, sym, ap}
 use Rattle.std.proofs.Math.ListN.{get_or-append}
 use Rattle.std.proofs.Math.Seq.{drop-cons, take_all, take-suc-set}
-use Rattle.storage.specs.Storage.{plus, joined, joined_from, sums_after, restoration}
+use Rattle.storage.specs.Storage.{joined, joined_from, sums_after, restoration}
 use Rattle.storage.specs.PlaneLaws.{joined-from-length, joined-from-at}
 
 -- Eight planes as one list of bytes, and that each has n bytes.

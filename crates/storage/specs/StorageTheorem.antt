@@ -1,5 +1,5 @@
 -- The promise of rearranging and restoring holds.
-use Rattle.std.specs.Prelude.{◌≡◌, ℕ, zero, suc, ◌+◌, ◌-◌, ◌*◌, ◌/◌, ◌%◌, ◌^◌, ◌<◌, ◌≤◌, true, false, ◌⊎◌, ◌↔◌, List, [], ◌∷◌, length, ◌≢◌, slice_index, refl}
+use Rattle.std.specs.Prelude.{◌≡◌, ℕ, zero, suc, ◌+◌, ◌-◌, ◌*◌, ◌/◌, ◌%◌, ◌^◌, ◌<◌, true, false, ◌⊎◌, ◌↔◌, List, [], ◌∷◌, length, ◌≢◌, slice_index, refl}
 use Rattle.std.proofs.Common.{arith, add-one, sym, ap, subst, ◌∙◌}
 use Rattle.checks.specs.Test.{test}
 use Rattle.checks.specs.TestLaws.{by_bool, holds-true, fails-false, true-holds, false-fails}

@@ -1,5 +1,5 @@
 -- A plane that is written byte by byte, and planes that are written one by one: how that starts, goes on and ends.
-use Rattle.std.specs.Prelude.{◌≡◌, ℕ, zero, suc, ◌+◌, ◌-◌, ◌*◌, ◌/◌, ◌%◌, ◌^◌, ◌<◌, ◌≤◌, List, [], ◌∷◌, ◌++◌, length, take, drop, slice_index, slice_set, refl}
+use Rattle.std.specs.Prelude.{◌≡◌, ℕ, zero, suc, ◌+◌, ◌-◌, ◌*◌, ◌/◌, ◌%◌, ◌^◌, ◌<◌, ◌≤◌, List, ◌++◌, length, take, drop, slice_index, slice_set, refl}
 use native.Mathlib.Omega.{arith}
 use Rattle.std.proofs.Common.{mul-suc, suc-mul, pow-suc, add-one, ◌∙◌, length-append, drop_of_length-le, length-take-le}
 use Rattle.std.proofs.Math.Nat.{zero-mul}

@@ -2,8 +2,8 @@
 #![tactic(auto)]
 
 use console::Product;
-use libc::STDIN_FILENO;
+use std::io;
 
-fn main() {
-    console::run(STDIN_FILENO, Product::Total);
+fn main(rt: HostRuntime) -> io::Result<()> {
+    console::run(&mut rt.reader(), &mut io::writer(&rt), Product::Total)
 }

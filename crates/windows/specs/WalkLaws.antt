@@ -1,6 +1,6 @@
 -- The walk over the starts of windows: what it keeps of the words left at the start and of those left behind the window's words so far.
 use Prim.Native.Nat.{ℕ, zero, suc, ◌+◌, ◌-◌, ◌*◌, ◌%◌, ◌^◌, ◌<◌, ◌≤◌}
-use Rattle.std.proofs.Common.{arith, ◌∙◌, length-take, take-add, drop-drop, length-take-le}
+use Rattle.std.proofs.Common.{arith, ◌∙◌, take-add, drop-drop, length-take-le}
 use Rattle.std.specs.Prelude.{◌≡◌, refl, length}
 use Rattle.std.proofs.Math.Path.{sym, ap}
 use mathlib.Core.List.{List, [], ◌∷◌, ◌++◌, map}

@@ -8,8 +8,8 @@ use Rattle.checks.specs.TestLaws.{by-test}
 use Rattle.chain.specs.Log.{put}
 use Rattle.chain.proofs.Laws.Lists.{put_same, put_other, put_all}
 use Rattle.sharing.specs.Places.{At, In}
-use Rattle.sharing.proofs.Laws.Places.{at_less, at_some, at-append, at_new, at-cases, at_one, in_right}
-use Rattle.sharing.specs.Sharing.{Machine, Accepts, Refuses, Row, replay, log_at, Asking, Append, row, Phase, idle, asked, waiting, halted, Controller, Telling, Denied, State, initial, with_controller, with_row, with_sent, with_told, with_notes, with_denied, with_forgotten, in_phase, reading, passing, starting, pending, asking, append, telling, denial, Free, FreeFrom, Move, ask, look, read, refuse, send, store, tell, leave, crash, halt, Run, here, on, Reachable, Around, nothing, other, late}
+use Rattle.sharing.proofs.Laws.Places.{at_less, at_some, at-append, at-cases, at_one, in_right}
+use Rattle.sharing.specs.Sharing.{Machine, Refuses, Row, replay, log_at, Asking, Append, row, Phase, idle, asked, waiting, halted, Controller, Telling, Denied, State, initial, with_controller, with_row, with_sent, with_told, with_denied, with_forgotten, in_phase, reading, passing, starting, pending, asking, append, telling, denial, Free, FreeFrom, Move, ask, look, read, refuse, send, store, tell, leave, crash, halt, Run, here, on, Reachable, Around, nothing, other, late}
 use Rattle.sharing.specs.SharingPromise.{OneAsking, DeniedApart}
 
 -- What was asked, and what was told before that.

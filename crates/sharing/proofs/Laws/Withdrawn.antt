@@ -1,10 +1,10 @@
 -- An asking that was given up without an append is never sent.
 use Rattle.std.specs.Prelude.{ℕ, ◌<◌, ◌≤◌, ◌≡◌, refl, Bool, true, false, List, ◌⊎◌}
-use Rattle.std.proofs.Common.{arith, sym, ap, subst, ◌∙◌, inl, inr, ⊎_elim}
+use Rattle.std.proofs.Common.{arith, sym, ap, subst, ◌∙◌, ⊎_elim}
 use Rattle.chain.specs.Log.{put}
 use Rattle.chain.proofs.Laws.Lists.{put_same, put_all}
 use Rattle.sharing.specs.Places.{In}
-use Rattle.sharing.specs.Sharing.{Machine, Asking, Append, Phase, idle, asked, waiting, halted, Controller, Denied, State, in_phase, starting, Move, ask, look, read, refuse, send, store, tell, leave, crash, halt, Run, here, on}
+use Rattle.sharing.specs.Sharing.{Machine, Asking, Append, Phase, idle, asked, waiting, halted, Controller, Denied, State, Move, ask, look, read, refuse, send, store, tell, leave, crash, halt, Run, here, on}
 use Rattle.sharing.specs.SharingPromise.{OneAsking}
 use Rattle.sharing.proofs.Laws.Invariant.{Invariant, PhaseRight, PhaseOnce, AskedRight}
 
@@ -40,27 +40,27 @@ module _ {M : Machine} where
   }
 
   module _ (base : M.Log) (a : Asking M) where
-    move-gone : (s t : State M) (d : ℕ) → Move base s d t → Gone a s → Gone a t
-    move-gone s t d (ask x p) g = still a s t d _ g refl refl (omega arith)
+    move-gone : (s : State M) (d : ℕ) (t : State M) → Move base s d t → Gone a s → Gone a t
+    move-gone s d t (ask x p) g = still a s t d _ g refl refl (omega arith)
         (λ b l e o. omega (arith, g.past, o.1, ap (λ (y : Asking M). y.time) (same-asking _ b false l e)))
-    move-gone s t d (look n runs h w f) g = still a s t d _ g refl refl (omega arith) (g.quit d)
-    move-gone s t d (read b l n p h e w) g = still a s t d _ g refl refl (omega arith)
+    move-gone s d t (look n runs h w f) g = still a s t d _ g refl refl (omega arith) (g.quit d)
+    move-gone s d t (read b l n p h e w) g = still a s t d _ g refl refl (omega arith)
         (λ y j q o. g.quit d b l p (subst (λ (z : Asking M). OneAsking z a) (sym (same-asking b y true j q)) o))
-    move-gone s t d (refuse b p e) g = still a s t d _ g refl refl (omega arith) (λ y j q _. idle-asks y j q)
-    move-gone s t d (send b l id p ok new) g = record {
+    move-gone s d t (refuse b p e) g = still a s t d _ g refl refl (omega arith) (λ y j q _. idle-asks y j q)
+    move-gone s d t (send b l id p ok new) g = record {
       unsent = λ m i. ⊎_elim (λ (q : m ≡ _). λ o. g.quit d b l p (subst (λ (y : Append M). OneAsking y.asking a) q o)) (λ (h : In m s.sent). g.unsent m h) i;
       quit = put_all (λ _ x. Quit a x.phase) s.controllers d _ (λ y j q _. waiting-asks _ y j q) (λ j _. g.quit j);
       past = omega (arith, g.past);
     }
-    move-gone s t d (store m i q e) g = record { unsent = g.unsent; quit = g.quit; past = omega (arith, g.past) }
-    move-gone s t d (tell m r p i e) g = still a s t d _ g refl refl (omega arith) (λ y j q _. idle-asks y j q)
-    move-gone s t d (leave runs) g = still a s t d _ g refl refl (omega arith) (λ y j q _. idle-asks y j q)
-    move-gone s t d crash g = still a s t d _ g refl refl (omega arith) (λ y j q _. idle-asks y j q)
-    move-gone s t d halt g = still a s t d _ g refl refl (omega arith) (λ y j q _. halted-asks y j q)
+    move-gone s d t (store m i q e) g = record { unsent = g.unsent; quit = g.quit; past = omega (arith, g.past) }
+    move-gone s d t (tell m r p i e) g = still a s t d _ g refl refl (omega arith) (λ y j q _. idle-asks y j q)
+    move-gone s d t (leave runs) g = still a s t d _ g refl refl (omega arith) (λ y j q _. idle-asks y j q)
+    move-gone s d t crash g = still a s t d _ g refl refl (omega arith) (λ y j q _. idle-asks y j q)
+    move-gone s d t halt g = still a s t d _ g refl refl (omega arith) (λ y j q _. halted-asks y j q)
 
     run-gone : (s t : State M) → Run base s t → Gone a s → Gone a t
     run-gone s t here g = g
-    run-gone s t (on {t = u} c r m) g = move-gone u t c m (run-gone s u r g)
+    run-gone s t (on {t = u} c r m) g = move-gone u c t m (run-gone s u r g)
 
     module _ (s : State M) (v : Invariant base s) (c : ℕ) (l : Bool) (p : (s.controllers c).phase ≡ asked a l) where
       right : AskedRight s a × (a.asker ≡ c) × (l ≡ true → a.since ≤ (s.controllers c).known)

@@ -1,0 +1,6 @@
+use Rattle.chain.specs.Operations.{buffers}
+use Rattle.capi.specs.Calls.{set-small}
+use Rattle.capi.proofs.mark.cindrolf_mark_set.Goals as goal
+
+pub answer_number-requires : goal.answer_number-requires
+answer_number-requires c = let args = c.args in set-small args.name (buffers args.state.now args.entries.now) args.marks.now c.set_mark-a.ensures.answer

@@ -1,0 +1,5 @@
+use Rattle.capi.specs.StorageCalls.{storage-small}
+use Rattle.capi.proofs.rearranged.cindrolf_restore.Goals as goal
+
+pub answer_number-requires : goal.answer_number-requires
+answer_number-requires c = storage-small _ _ c.restore-a.ensures.answers

@@ -1,0 +1,87 @@
+use Rattle.std.proofs.Common.{arith}
+use Rattle.sentences.specs.Phrases.{step_names, step_name}
+use Rattle.sentences.specs.ArmLaws.{no_name, put-none}
+use Rattle.sentences.proofs.name.put_name.Goals as goal
+
+pub put_phrase-requires : goal.put_phrase-requires
+unfolding step_name step_names
+put_phrase-requires c = rw c.in-0.is at c.requires
+
+pub put_phrase-requires-in-1 : goal.put_phrase-requires-in-1
+unfolding step_name step_names
+put_phrase-requires-in-1 c = rw c.in-1.is at c.requires
+
+pub put_phrase-requires-in-2 : goal.put_phrase-requires-in-2
+unfolding step_name step_names
+put_phrase-requires-in-2 c = rw c.in-2.is at c.requires
+
+pub put_phrase-requires-in-3 : goal.put_phrase-requires-in-3
+unfolding step_name step_names
+put_phrase-requires-in-3 c = rw c.in-3.is at c.requires
+
+pub put_phrase-requires-in-4 : goal.put_phrase-requires-in-4
+unfolding step_name step_names
+put_phrase-requires-in-4 c = rw c.in-4.is at c.requires
+
+pub put_phrase-requires-in-5 : goal.put_phrase-requires-in-5
+unfolding step_name step_names
+put_phrase-requires-in-5 c = rw c.in-5.is at c.requires
+
+pub put_phrase-requires-in-6 : goal.put_phrase-requires-in-6
+unfolding step_name step_names
+put_phrase-requires-in-6 c = rw c.in-6.is at c.requires
+
+pub put_phrase-requires-in-7 : goal.put_phrase-requires-in-7
+unfolding step_name step_names
+put_phrase-requires-in-7 c = rw c.in-7.is at c.requires
+
+pub put_phrase-requires-in-8 : goal.put_phrase-requires-in-8
+unfolding step_name step_names
+put_phrase-requires-in-8 c = rw c.in-8.is at c.requires
+
+pub put_phrase-requires-in-9 : goal.put_phrase-requires-in-9
+unfolding step_name step_names
+put_phrase-requires-in-9 c = rw c.in-9.is at c.requires
+
+pub returns-in-0 : goal.returns-in-0
+unfolding step_name step_names
+returns-in-0 c = rw c.in-0.is c.put_phrase.ensures
+
+pub returns-in-1 : goal.returns-in-1
+unfolding step_name step_names
+returns-in-1 c = rw c.in-1.is c.put_phrase-in-1.ensures
+
+pub returns-in-2 : goal.returns-in-2
+unfolding step_name step_names
+returns-in-2 c = rw c.in-2.is c.put_phrase-in-2.ensures
+
+pub returns-in-3 : goal.returns-in-3
+unfolding step_name step_names
+returns-in-3 c = rw c.in-3.is c.put_phrase-in-3.ensures
+
+pub returns-in-4 : goal.returns-in-4
+unfolding step_name step_names
+returns-in-4 c = rw c.in-4.is c.put_phrase-in-4.ensures
+
+pub returns-in-5 : goal.returns-in-5
+unfolding step_name step_names
+returns-in-5 c = rw c.in-5.is c.put_phrase-in-5.ensures
+
+pub returns-in-6 : goal.returns-in-6
+unfolding step_name step_names
+returns-in-6 c = rw c.in-6.is c.put_phrase-in-6.ensures
+
+pub returns-in-7 : goal.returns-in-7
+unfolding step_name step_names
+returns-in-7 c = rw c.in-7.is c.put_phrase-in-7.ensures
+
+pub returns-in-8 : goal.returns-in-8
+unfolding step_name step_names
+returns-in-8 c = rw c.in-8.is c.put_phrase-in-8.ensures
+
+pub returns-in-9 : goal.returns-in-9
+unfolding step_name step_names
+returns-in-9 c = rw c.in-9.is c.put_phrase-in-9.ensures
+
+pub returns-in_default : goal.returns-in_default
+returns-in_default c = put-none _ _ _ (no_name _ (omega arith))

@@ -1,0 +1,42 @@
+use Rattle.sentences.specs.Phrases.{reasons, reason}
+use Rattle.sentences.proofs.reason.is_from_11.Goals as goal
+
+pub returns-in-11 : goal.returns-in-11
+unfolding reason reasons
+returns-in-11 c = rw c.in-11.is c.is_phrase.ensures
+
+pub returns-in-12 : goal.returns-in-12
+unfolding reason reasons
+returns-in-12 c = rw c.in-12.is c.is_phrase-in-12.ensures
+
+pub returns-in-13 : goal.returns-in-13
+unfolding reason reasons
+returns-in-13 c = rw c.in-13.is c.is_phrase-in-13.ensures
+
+pub returns-in-14 : goal.returns-in-14
+unfolding reason reasons
+returns-in-14 c = rw c.in-14.is c.is_phrase-in-14.ensures
+
+pub returns-in-15 : goal.returns-in-15
+unfolding reason reasons
+returns-in-15 c = rw c.in-15.is c.is_phrase-in-15.ensures
+
+pub returns-in-16 : goal.returns-in-16
+unfolding reason reasons
+returns-in-16 c = rw c.in-16.is c.is_phrase-in-16.ensures
+
+pub returns-in-17 : goal.returns-in-17
+unfolding reason reasons
+returns-in-17 c = rw c.in-17.is c.is_phrase-in-17.ensures
+
+pub returns-in-18 : goal.returns-in-18
+unfolding reason reasons
+returns-in-18 c = rw c.in-18.is c.is_phrase-in-18.ensures
+
+pub returns-in-19 : goal.returns-in-19
+unfolding reason reasons
+returns-in-19 c = rw c.in-19.is c.is_phrase-in-19.ensures
+
+pub returns-in-20 : goal.returns-in-20
+unfolding reason reasons
+returns-in-20 c = rw c.in-20.is c.is_phrase-in-20.ensures

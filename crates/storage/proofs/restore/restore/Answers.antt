@@ -1,0 +1,15 @@
+use Rattle.std.proofs.Common.{sym, ◌∙◌}
+use Rattle.storage.specs.DecidedLaws.{words-stay, words-written}
+use Rattle.storage.proofs.restore.restore.Goals as goal
+
+pub returns-then-is_wrong : goal.returns-then-is_wrong
+returns-then-is_wrong c =
+    let args = c.args in
+    let all = words-stay args.words.now args.bytes.now (sym c.is_wrong.ensures ∙ c.if-is_wrong.true) in
+    record { answers = all.0; writes = all.1 }
+
+pub returns : goal.returns
+returns c =
+    let args = c.args in
+    let all = words-written args.words.now args.bytes.now (sym c.is_wrong.ensures ∙ c.if-is_wrong.false) _ c.restore_words.ensures in
+    record { answers = all.0; writes = all.1 }
