@@ -7,6 +7,9 @@
 # is newer, the second look decides: the sums of the sources and of the built files. If they are those of the last build, nothing
 # is built, and the time of this look is kept. A clock that shows a time before the last look also counts as newer.
 #
+# rt keeps its own work in crates/NAME/out, and takes from there and from other checkouts what it has proved of the same text. No
+# look goes there: what rt makes is copied into target/.
+#
 # target/made/ has for each product NAME.sum, what it was made from and its sum; NAME.seen, whose time is that of the last whole
 # look; and NAME.log, what the build said.
 
@@ -19,7 +22,8 @@ product() { # NAME SOURCES FILE..
 }
 
 sum() { # FILE..
-    (cd "$root" && find "$@" -type f ! -path '*/must-fail/*' -exec sha256sum {} + 2>/dev/null | sort | sha256sum)
+    (cd "$root" && find "$@" \( -path '*/must-fail/*' -o -regex 'crates/[^/]*/out' \) -prune -o -type f -exec sha256sum {} + 2>/dev/null |
+        sort | sha256sum)
 }
 
 # What a build depends on: the sources and the kit. Without the kit nothing can be built, so what is there stays good.
@@ -34,7 +38,7 @@ unchanged() {
     [ -f "$record" ] && [ -f "$seen" ] || return 1
     # shellcheck disable=SC2086
     newer=$(cd "$root" && find $inputs $outputs "$record" "$seen" -path "$seen" \( -newermt now -print -quit -o -true \) -o \
-        -path '*/must-fail/*' -prune -o -cnewer "$seen" -print -quit 2>&1) && [ -z "$newer" ] || return 1
+        \( -path '*/must-fail/*' -o -regex 'crates/[^/]*/out' \) -prune -o -cnewer "$seen" -print -quit 2>&1) && [ -z "$newer" ] || return 1
     ! command -v rt >/dev/null 2>&1 || [ "$(rt version </dev/null)" = "$(sed -n 2p "$record")" ]
 }
 
@@ -79,15 +83,20 @@ made() { # FILE COMMAND..
     unlock
 }
 
+# Proves a crate and those that it stands on, as many at a time as there are processors: rt lib and rt run take one after the other.
+prove() { # NAME
+    (cd "crates/$1" && rt all check --jobs "$(nproc)")
+}
+
 build() { # COMMAND..
     writable "$target" "$target/made"
-    for folder in rlib stamp log obj bin staticlib; do
-        [ ! -e "$target/$folder" ] || writable "$target/$folder"
+    for folder in "$target/bin" "$target/staticlib" "$root"/crates/*/out; do
+        [ ! -e "$folder" ] || writable "$folder"
     done
     # A file that something else has changed is made once more.
     [ "$from" != "$(head -n 2 "$record" 2>/dev/null)" ] || rm -f -- "$root/$outputs"
     rm -f -- "$record"
-    say "proving what has changed (the first time takes about six minutes)"
+    say "proving what has changed (the first time takes some minutes)"
     { (cd "$root" && "$@" </dev/null 2>&1); echo "status $?"; } | follow \
         || fail 1 "the build failed; $log has all of its output"
     [ -f "$root/$outputs" ] || fail 1 "the build made no $root/$outputs; $log has all of its output"
@@ -96,12 +105,15 @@ build() { # COMMAND..
 
 # Keeps the build's output in the log, and shows what became of each crate and what the system refused.
 follow() {
-    last='' lost=''
+    last='' lost='' crate=''
     while IFS= read -r line; do
         printf '%s\n' "$line" 2>/dev/null || lost=yes
         case $line in
-        *'(unchanged since'*) ;;
+        'rt: chose '* | 'rt: note: '* | 'rt: rt '* | 'rt: running '*) ;;
         'rt: '*) say "${line#rt: }" ;;
+        'crate '*': modules '*) crate=${line#crate } crate=${crate%%:*} ;;
+        'logic=proved '*) say "$crate is proved" ;;
+        *': failed ('*')') say "$line" ;;
         *': Permission denied' | *': Read-only file system' | *': No space left on device' | *': Disk quota exceeded') say "$line" ;;
         esac
         last=$line
@@ -124,15 +136,19 @@ cargo_in_target() { # VERB [ARGUMENT..]
 }
 
 # ---- the programs
-check_program() { # NAME
-    # rt does not see that a program is gone.
-    [ -x "$target/bin/$1" ] || rm -f -- "$target/stamp/$1"
-    rt check "$1"
+# rt links a program only to run it, so it runs here once, without input; what became of that run counts for nothing. A program
+# that is not proved is not there afterwards.
+link_program() { # NAME
+    prove "$1" || return 1
+    rm -f -- "crates/$1/out/$1"
+    (cd "crates/$1" && rt run >/dev/null)
+    [ -x "crates/$1/out/$1" ] || return 1
+    mkdir -p target/bin && cp -- "crates/$1/out/$1" "target/bin/$1.new" && mv -f -- "target/bin/$1.new" "target/bin/$1"
 }
 
 # Sees to it that a proved program is built: session or total.
 proved() { # NAME
-    made "bin/$1_program" check_program "$1_program"
+    made "bin/$1_program" link_program "$1_program"
 }
 
 # Sees to it that target/installed has the program cindrolf and those that it starts, laid out as below a prefix.
@@ -210,10 +226,15 @@ build_libraries() {
     put_program "$target/rust/release/libcindrolf_store_library.so" "lib/libcindrolf_store.so.$store_number"
     # What debuggers read is most of their bytes.
     (cd "$target/installed/lib" && strip --strip-debug libcindrolf_store.a "libcindrolf_store.so.$store_number") 2>/dev/null
-    ln -sf "libcindrolf.so.$number" "$target/installed/lib/libcindrolf.so" || fail 2 "cannot write in $target/installed/lib"
-    ln -sf "libcindrolf_store.so.$store_number" "$target/installed/lib/libcindrolf_store.so" || fail 2 "cannot write in $target/installed/lib"
+    second_name "libcindrolf.so.$number" libcindrolf.so
+    second_name "libcindrolf_store.so.$store_number" libcindrolf_store.so
     for header in "$root"/include/*; do put_program "$header" "include/${header##*/}"; done
     [ -n "${CINDROLF_ARCHIVE_DIR-}" ] || keep
+}
+
+# No symbolic link: rt ci refuses a checkout that has one anywhere, also below target/.
+second_name() { # FILE NAME
+    ln -f -- "$target/installed/lib/$1" "$target/installed/lib/$2" || fail 2 "cannot write in $target/installed/lib"
 }
 
 # Replaces a program or a library whole: one that runs goes on as it is.

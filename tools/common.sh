@@ -78,7 +78,7 @@ writable() { # FOLDER..
 }
 
 # ---- the lock: one command at a time builds in target/
-# It stands beside target/, which `rt ci` removes. What a command starts shares its lock, by CINDROLF_LOCKED. A command that locks
+# It stands beside target/, so that this can be removed. What a command starts shares its lock, by CINDROLF_LOCKED. A command that locks
 # twice unlocks twice.
 held='' depth=0
 

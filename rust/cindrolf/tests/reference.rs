@@ -84,10 +84,10 @@ fn the_stages_are_those_of_the_adviser() {
 /// The name that the specification gives a step.
 fn specified(name: &str) -> &str {
     match name {
-        "close last" => "closeLast",
-        "close own" => "closeOwn",
-        "write" => "(write (ofValue v))",
-        "write scores" => "(write (ofScores qs))",
+        "close last" => "close_last",
+        "close own" => "close_own",
+        "write" => "(write (of_value v))",
+        "write scores" => "(write (of_scores qs))",
         name => name,
     }
 }
@@ -98,7 +98,7 @@ fn the_checks_are_those_that_are_proved() {
     let steps = steps();
     assert_eq!(steps.len(), 11);
     for step in steps {
-        let start = format!("stepNumbers {} = ", specified(step.name));
+        let start = format!("step_numbers {} = ", specified(step.name));
         let line = ORDERS.lines().find_map(|line| line.strip_prefix(&start)).expect(&start);
         let order = line.strip_suffix(" ∷ []").expect(line).split(" ∷ ").map(|check| check.parse().expect(line));
         let mut order: Vec<u64> = order.collect();

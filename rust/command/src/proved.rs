@@ -22,9 +22,10 @@ pub fn run(name: &str, file: Option<File>) -> Result<ExitCode, Failure> {
     let (status, said) = child.and_then(ended).map_err(|error| {
         Failure::Program(format!("{} cannot be started: {error}; install cindrolf again", program.display()))
     })?;
-    // The program has no status of its own: what it says on standard error is that it failed.
+    // A program that could not read or write says so on standard error, and ends with 1. If the reader of its output has
+    // gone away, nobody wants to hear it.
     match said.trim_end() {
-        "" => Ok(code(status)),
+        said if said.is_empty() || said.contains("kind: BrokenPipe") => Ok(code(status)),
         said => Err(Failure::Program(said.into())),
     }
 }
