@@ -3,8 +3,7 @@ ghost use Rattle.chain.specs.Operations.{buffers};
 ghost use Rattle.chain.specs.Plans.{numbered_step};
 ghost use Rattle.capi.specs.Calls.{TakeCall, all_of};
 
-#[unsafe(no_mangle)]
-pub extern "C" fn cindrolf_take_with(
+pub fn cindrolf_take_with(
     state: &mut [u64],
     entries: &mut [u64],
     rights: &[u64],
@@ -19,8 +18,7 @@ pub extern "C" fn cindrolf_take_with(
     crate::number::answer_number(a)
 }
 
-#[unsafe(no_mangle)]
-pub extern "C" fn cindrolf_take(
+pub fn cindrolf_take(
     state: &mut [u64],
     entries: &mut [u64],
     step: u64,

@@ -1,4 +1,4 @@
-// The log for callers in C, C++ and Rust. include/cindrolf.h declares the functions that are exported here.
+// The log for callers in C, C++ and Rust: answers are numbers. The crate capi_c exports these functions, and include/cindrolf.h declares them.
 #![tactic(auto)]
 
 pub mod advice;

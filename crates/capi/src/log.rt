@@ -5,16 +5,14 @@ ghost use Rattle.chain.specs.Operations.{buffers};
 ghost use Rattle.wellformed.specs.Parts.{log_test};
 ghost use Rattle.capi.specs.Calls.{FreshCall};
 
-#[unsafe(no_mangle)]
-pub extern "C" fn cindrolf_fresh(state: &mut [u64], entries: &mut [u64], clients: u64) -> u64
+pub fn cindrolf_fresh(state: &mut [u64], entries: &mut [u64], clients: u64) -> u64
     ensures { FreshCall clients (buffers state.old entries.old) result state.new entries.new }
 {
     let a = fresh::fresh(state, entries, clients);
     crate::number::answer_number(a)
 }
 
-#[unsafe(no_mangle)]
-pub extern "C" fn cindrolf_well_formed(state: &[u64], entries: &[u64]) -> bool
+pub fn cindrolf_well_formed(state: &[u64], entries: &[u64]) -> bool
     ensures { result ≡ test (log_test (buffers state.now entries.now)) }
 {
     wellformed::well_formed(state, entries)

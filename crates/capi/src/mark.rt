@@ -4,34 +4,21 @@ ghost use Rattle.capi.specs.Calls.{SetMarkCall, DropMarkCall, ReadMarkCall};
 
 use crate::reading::ChainCount;
 
-#[unsafe(no_mangle)]
-pub extern "C" fn cindrolf_mark_set(
-    state: &[u64],
-    entries: &[u64],
-    marks: &mut [u64],
-    name: u64,
-) -> u64
+pub fn cindrolf_mark_set(state: &[u64], entries: &[u64], marks: &mut [u64], name: u64) -> u64
     ensures { SetMarkCall name (buffers state.now entries.now) marks.old result marks.new }
 {
     let a = marks::set::set_mark(state, entries, marks, name);
     crate::number::answer_number(a)
 }
 
-#[unsafe(no_mangle)]
-pub extern "C" fn cindrolf_mark_drop(
-    state: &[u64],
-    entries: &[u64],
-    marks: &mut [u64],
-    name: u64,
-) -> u64
+pub fn cindrolf_mark_drop(state: &[u64], entries: &[u64], marks: &mut [u64], name: u64) -> u64
     ensures { DropMarkCall name (buffers state.now entries.now) marks.old result marks.new }
 {
     let a = marks::drop::drop_mark(state, entries, marks, name);
     crate::number::answer_number(a)
 }
 
-#[unsafe(no_mangle)]
-pub extern "C" fn cindrolf_mark_read(
+pub fn cindrolf_mark_read(
     state: &[u64],
     entries: &[u64],
     marks: &[u64],

@@ -29,8 +29,7 @@ pub fn take_scores(
     crate::number::answer_number(a)
 }
 
-#[unsafe(no_mangle)]
-pub extern "C" fn cindrolf_name_with(
+pub fn cindrolf_name_with(
     state: &mut [u64],
     entries: &mut [u64],
     rights: &[u64],
@@ -42,8 +41,7 @@ pub extern "C" fn cindrolf_name_with(
     take_numbered(state, entries, rights, Step::Name(client))
 }
 
-#[unsafe(no_mangle)]
-pub extern "C" fn cindrolf_become_with(
+pub fn cindrolf_become_with(
     state: &mut [u64],
     entries: &mut [u64],
     rights: &[u64],
@@ -55,8 +53,7 @@ pub extern "C" fn cindrolf_become_with(
     take_numbered(state, entries, rights, Step::Become(client))
 }
 
-#[unsafe(no_mangle)]
-pub extern "C" fn cindrolf_abdicate_with(
+pub fn cindrolf_abdicate_with(
     state: &mut [u64],
     entries: &mut [u64],
     rights: &[u64],
@@ -68,8 +65,7 @@ pub extern "C" fn cindrolf_abdicate_with(
     take_numbered(state, entries, rights, Step::Abdicate(client))
 }
 
-#[unsafe(no_mangle)]
-pub extern "C" fn cindrolf_fetch_with(
+pub fn cindrolf_fetch_with(
     state: &mut [u64],
     entries: &mut [u64],
     rights: &[u64],
@@ -81,8 +77,7 @@ pub extern "C" fn cindrolf_fetch_with(
     take_numbered(state, entries, rights, Step::Fetch(client))
 }
 
-#[unsafe(no_mangle)]
-pub extern "C" fn cindrolf_close_last_with(
+pub fn cindrolf_close_last_with(
     state: &mut [u64],
     entries: &mut [u64],
     rights: &[u64],
@@ -94,8 +89,7 @@ pub extern "C" fn cindrolf_close_last_with(
     take_numbered(state, entries, rights, Step::CloseLast(client))
 }
 
-#[unsafe(no_mangle)]
-pub extern "C" fn cindrolf_finish_with(
+pub fn cindrolf_finish_with(
     state: &mut [u64],
     entries: &mut [u64],
     rights: &[u64],
@@ -107,8 +101,7 @@ pub extern "C" fn cindrolf_finish_with(
     take_numbered(state, entries, rights, Step::Finish(client))
 }
 
-#[unsafe(no_mangle)]
-pub extern "C" fn cindrolf_create_with(
+pub fn cindrolf_create_with(
     state: &mut [u64],
     entries: &mut [u64],
     rights: &[u64],
@@ -120,8 +113,7 @@ pub extern "C" fn cindrolf_create_with(
     take_numbered(state, entries, rights, Step::Create(client))
 }
 
-#[unsafe(no_mangle)]
-pub extern "C" fn cindrolf_append_with(
+pub fn cindrolf_append_with(
     state: &mut [u64],
     entries: &mut [u64],
     rights: &[u64],
@@ -133,8 +125,7 @@ pub extern "C" fn cindrolf_append_with(
     take_numbered(state, entries, rights, Step::Append(client))
 }
 
-#[unsafe(no_mangle)]
-pub extern "C" fn cindrolf_write_with(
+pub fn cindrolf_write_with(
     state: &mut [u64],
     entries: &mut [u64],
     rights: &[u64],
@@ -147,8 +138,7 @@ pub extern "C" fn cindrolf_write_with(
     take_numbered(state, entries, rights, Step::Write(client, value))
 }
 
-#[unsafe(no_mangle)]
-pub extern "C" fn cindrolf_write_scores_with(
+pub fn cindrolf_write_scores_with(
     state: &mut [u64],
     entries: &mut [u64],
     rights: &[u64],
@@ -161,8 +151,7 @@ pub extern "C" fn cindrolf_write_scores_with(
     take_scores(state, entries, rights, client, scores)
 }
 
-#[unsafe(no_mangle)]
-pub extern "C" fn cindrolf_close_own_with(
+pub fn cindrolf_close_own_with(
     state: &mut [u64],
     entries: &mut [u64],
     rights: &[u64],

@@ -11,8 +11,7 @@ pub struct PlanCounts {
     pub refusals: u64,
 }
 
-#[unsafe(no_mangle)]
-pub extern "C" fn cindrolf_run_plan(
+pub fn cindrolf_run_plan(
     state: &mut [u64],
     entries: &mut [u64],
     rights: &[u64],
@@ -25,8 +24,7 @@ pub extern "C" fn cindrolf_run_plan(
     plans::run::run_plan(state, entries, rights, plan, budget)
 }
 
-#[unsafe(no_mangle)]
-pub extern "C" fn cindrolf_forecast(
+pub fn cindrolf_forecast(
     state: &[u64],
     entries: &[u64],
     rights: &[u64],

@@ -40,8 +40,7 @@ pub fn chain_count(a: ChainAnswer) -> ChainCount
     }
 }
 
-#[unsafe(no_mangle)]
-pub extern "C" fn cindrolf_read_ledger(state: &[u64], entries: &[u64], ledger: u64) -> LedgerPart
+pub fn cindrolf_read_ledger(state: &[u64], entries: &[u64], ledger: u64) -> LedgerPart
     ensures { LedgerCall ledger (buffers state.now entries.now) result.answer result.start result.count }
 {
     let found = readers::locate::locate(state, entries, LedgerNumber(ledger));
@@ -53,12 +52,7 @@ pub extern "C" fn cindrolf_read_ledger(state: &[u64], entries: &[u64], ledger: u
     }
 }
 
-#[unsafe(no_mangle)]
-pub extern "C" fn cindrolf_read_chain(
-    state: &[u64],
-    entries: &[u64],
-    output: &mut [u64],
-) -> ChainCount
+pub fn cindrolf_read_chain(state: &[u64], entries: &[u64], output: &mut [u64]) -> ChainCount
     ensures { ChainCall (buffers state.now entries.now) output.old result.answer
         result.count output.new }
 {

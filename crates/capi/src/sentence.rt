@@ -31,13 +31,7 @@ fn sentence_bytes(a: SentenceAnswer) -> SentenceBytes
     }
 }
 
-#[unsafe(no_mangle)]
-pub extern "C" fn cindrolf_sentence(
-    step: u64,
-    client: u64,
-    refusal: u64,
-    text: &mut [u8],
-) -> SentenceBytes
+pub fn cindrolf_sentence(step: u64, client: u64, refusal: u64, text: &mut [u8]) -> SentenceBytes
     ensures { SentenceCall step client refusal text.old result.answer result.length text.new }
 {
     let a = sentences::sentence(step, client, refusal, text);
@@ -76,8 +70,7 @@ fn sentence_said(a: SentenceRead) -> SentenceSaid
     }
 }
 
-#[unsafe(no_mangle)]
-pub extern "C" fn cindrolf_read_sentence(text: &[u8]) -> SentenceSaid
+pub fn cindrolf_read_sentence(text: &[u8]) -> SentenceSaid
     ensures { ReadSentenceCall text.now result.found result.step result.client result.refusal }
 {
     let a = sentences::read::read_sentence(text);

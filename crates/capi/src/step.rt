@@ -16,85 +16,70 @@ fn take_with_all_rights(state: &mut [u64], entries: &mut [u64], step: Step) -> u
     crate::permitted::take_numbered(state, entries, &rights, step)
 }
 
-#[unsafe(no_mangle)]
-pub extern "C" fn cindrolf_name(state: &mut [u64], entries: &mut [u64], client: u64) -> u64
+pub fn cindrolf_name(state: &mut [u64], entries: &mut [u64], client: u64) -> u64
     ensures { StepCall (by (all_of state.old) client kinds.name)
         (buffers state.old entries.old) result state.new entries.new }
 {
     take_with_all_rights(state, entries, Step::Name(client))
 }
 
-#[unsafe(no_mangle)]
-pub extern "C" fn cindrolf_become(state: &mut [u64], entries: &mut [u64], client: u64) -> u64
+pub fn cindrolf_become(state: &mut [u64], entries: &mut [u64], client: u64) -> u64
     ensures { StepCall (by (all_of state.old) client kinds.become)
         (buffers state.old entries.old) result state.new entries.new }
 {
     take_with_all_rights(state, entries, Step::Become(client))
 }
 
-#[unsafe(no_mangle)]
-pub extern "C" fn cindrolf_abdicate(state: &mut [u64], entries: &mut [u64], client: u64) -> u64
+pub fn cindrolf_abdicate(state: &mut [u64], entries: &mut [u64], client: u64) -> u64
     ensures { StepCall (by (all_of state.old) client kinds.abdicate)
         (buffers state.old entries.old) result state.new entries.new }
 {
     take_with_all_rights(state, entries, Step::Abdicate(client))
 }
 
-#[unsafe(no_mangle)]
-pub extern "C" fn cindrolf_fetch(state: &mut [u64], entries: &mut [u64], client: u64) -> u64
+pub fn cindrolf_fetch(state: &mut [u64], entries: &mut [u64], client: u64) -> u64
     ensures { StepCall (by (all_of state.old) client kinds.fetch)
         (buffers state.old entries.old) result state.new entries.new }
 {
     take_with_all_rights(state, entries, Step::Fetch(client))
 }
 
-#[unsafe(no_mangle)]
-pub extern "C" fn cindrolf_close_last(state: &mut [u64], entries: &mut [u64], client: u64) -> u64
+pub fn cindrolf_close_last(state: &mut [u64], entries: &mut [u64], client: u64) -> u64
     ensures { StepCall (by (all_of state.old) client kinds.close_last)
         (buffers state.old entries.old) result state.new entries.new }
 {
     take_with_all_rights(state, entries, Step::CloseLast(client))
 }
 
-#[unsafe(no_mangle)]
-pub extern "C" fn cindrolf_finish(state: &mut [u64], entries: &mut [u64], client: u64) -> u64
+pub fn cindrolf_finish(state: &mut [u64], entries: &mut [u64], client: u64) -> u64
     ensures { StepCall (by (all_of state.old) client kinds.finish)
         (buffers state.old entries.old) result state.new entries.new }
 {
     take_with_all_rights(state, entries, Step::Finish(client))
 }
 
-#[unsafe(no_mangle)]
-pub extern "C" fn cindrolf_create(state: &mut [u64], entries: &mut [u64], client: u64) -> u64
+pub fn cindrolf_create(state: &mut [u64], entries: &mut [u64], client: u64) -> u64
     ensures { StepCall (by (all_of state.old) client kinds.create)
         (buffers state.old entries.old) result state.new entries.new }
 {
     take_with_all_rights(state, entries, Step::Create(client))
 }
 
-#[unsafe(no_mangle)]
-pub extern "C" fn cindrolf_append(state: &mut [u64], entries: &mut [u64], client: u64) -> u64
+pub fn cindrolf_append(state: &mut [u64], entries: &mut [u64], client: u64) -> u64
     ensures { StepCall (by (all_of state.old) client kinds.append)
         (buffers state.old entries.old) result state.new entries.new }
 {
     take_with_all_rights(state, entries, Step::Append(client))
 }
 
-#[unsafe(no_mangle)]
-pub extern "C" fn cindrolf_write(
-    state: &mut [u64],
-    entries: &mut [u64],
-    client: u64,
-    value: u64,
-) -> u64
+pub fn cindrolf_write(state: &mut [u64], entries: &mut [u64], client: u64, value: u64) -> u64
     ensures { StepCall (by (all_of state.old) client (kinds.write (kinds.of_value value)))
         (buffers state.old entries.old) result state.new entries.new }
 {
     take_with_all_rights(state, entries, Step::Write(client, value))
 }
 
-#[unsafe(no_mangle)]
-pub extern "C" fn cindrolf_write_scores(
+pub fn cindrolf_write_scores(
     state: &mut [u64],
     entries: &mut [u64],
     client: u64,
@@ -109,8 +94,7 @@ pub extern "C" fn cindrolf_write_scores(
     crate::permitted::take_scores(state, entries, &rights, client, scores)
 }
 
-#[unsafe(no_mangle)]
-pub extern "C" fn cindrolf_close_own(state: &mut [u64], entries: &mut [u64], client: u64) -> u64
+pub fn cindrolf_close_own(state: &mut [u64], entries: &mut [u64], client: u64) -> u64
     ensures { StepCall (by (all_of state.old) client kinds.close_own)
         (buffers state.old entries.old) result state.new entries.new }
 {

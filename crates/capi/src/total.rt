@@ -93,24 +93,21 @@ fn summed_run(a: TotalAnswer) -> SummedRun
     }
 }
 
-#[unsafe(no_mangle)]
-pub extern "C" fn cindrolf_ledger_at(state: &[u64], entries: &[u64], place: u64) -> ListedLedger
+pub fn cindrolf_ledger_at(state: &[u64], entries: &[u64], place: u64) -> ListedLedger
     ensures { PlaceCall place (buffers state.now entries.now) result.answer result.ledger }
 {
     let a = readers::ledger_at::ledger_at(state, entries, ListPlace(place));
     listed_ledger(a)
 }
 
-#[unsafe(no_mangle)]
-pub extern "C" fn cindrolf_ledger_sum(state: &[u64], entries: &[u64], ledger: u64) -> SummedLedger
+pub fn cindrolf_ledger_sum(state: &[u64], entries: &[u64], ledger: u64) -> SummedLedger
     ensures { SumCall ledger (buffers state.now entries.now) result.answer result.entries result.sum }
 {
     let a = totals::ledger_sum::ledger_sum(state, entries, LedgerNumber(ledger));
     summed_ledger(a)
 }
 
-#[unsafe(no_mangle)]
-pub extern "C" fn cindrolf_run_total(state: &[u64], entries: &[u64]) -> SummedRun
+pub fn cindrolf_run_total(state: &[u64], entries: &[u64]) -> SummedRun
     ensures { TotalCall (buffers state.now entries.now) result.answer result.ones result.parts result.rounded }
 {
     let a = totals::run_total::run_total(state, entries);

@@ -12,14 +12,7 @@ pub struct NextTurn {
     pub act: u64,
 }
 
-#[unsafe(no_mangle)]
-pub extern "C" fn cindrolf_decide(
-    phase: u64,
-    id: u64,
-    seen: u64,
-    first: u64,
-    second: u64,
-) -> NextTurn
+pub fn cindrolf_decide(phase: u64, id: u64, seen: u64, first: u64, second: u64) -> NextTurn
     ensures { DecideCall phase id seen first second result.phase result.id result.act }
 {
     let before = turns::number::phase_of(phase, id);
@@ -34,8 +27,7 @@ pub extern "C" fn cindrolf_decide(
     }
 }
 
-#[unsafe(no_mangle)]
-pub extern "C" fn cindrolf_request_id(start: u64, count: u64) -> u64
+pub fn cindrolf_request_id(start: u64, count: u64) -> u64
     ensures { result ≡ request_id start count }
 {
     turns::id::request_id(start, count)

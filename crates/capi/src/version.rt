@@ -4,8 +4,7 @@ ghost use Rattle.capi.specs.Calls.{interface_version};
 
 const VERSION: u64 = 3;
 
-#[unsafe(no_mangle)]
-pub extern "C" fn cindrolf_version() -> u64
+pub fn cindrolf_version() -> u64
     ensures { result ≡ interface_version }
 {
     VERSION

@@ -39,13 +39,7 @@ fn window_found(a: WindowAnswer) -> WindowFound
     }
 }
 
-#[unsafe(no_mangle)]
-pub extern "C" fn cindrolf_first_window(
-    state: &[u64],
-    entries: &[u64],
-    window: u64,
-    limit: u64,
-) -> WindowFound
+pub fn cindrolf_first_window(state: &[u64], entries: &[u64], window: u64, limit: u64) -> WindowFound
     ensures { WindowCall window limit (buffers state.now entries.now) result.answer result.found result.start }
 {
     let a = windows::first_window(state, entries, window, limit);

@@ -1,0 +1,43 @@
+// Marks: named points of a run, in a third buffer. The log is only read.
+ghost use Rattle.chain.specs.Operations.{buffers};
+ghost use Rattle.capi.specs.Calls.{SetMarkCall, DropMarkCall, ReadMarkCall};
+
+use capi::reading::ChainCount;
+
+#[unsafe(no_mangle)]
+pub extern "C" fn cindrolf_mark_set(
+    state: &[u64],
+    entries: &[u64],
+    marks: &mut [u64],
+    name: u64,
+) -> u64
+    ensures { SetMarkCall name (buffers state.now entries.now) marks.old result marks.new }
+{
+    capi::mark::cindrolf_mark_set(state, entries, marks, name)
+}
+
+#[unsafe(no_mangle)]
+pub extern "C" fn cindrolf_mark_drop(
+    state: &[u64],
+    entries: &[u64],
+    marks: &mut [u64],
+    name: u64,
+) -> u64
+    ensures { DropMarkCall name (buffers state.now entries.now) marks.old result marks.new }
+{
+    capi::mark::cindrolf_mark_drop(state, entries, marks, name)
+}
+
+#[unsafe(no_mangle)]
+pub extern "C" fn cindrolf_mark_read(
+    state: &[u64],
+    entries: &[u64],
+    marks: &[u64],
+    name: u64,
+    output: &mut [u64],
+) -> ChainCount
+    ensures { ReadMarkCall name (buffers state.now entries.now) marks.now
+        output.old result.answer result.count output.new }
+{
+    capi::mark::cindrolf_mark_read(state, entries, marks, name, output)
+}
