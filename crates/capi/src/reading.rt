@@ -9,7 +9,7 @@ use records::numbers::LedgerNumber;
 
 // Read ledger's answer, and its part: the index of the first word and the number of words, both 0 where it is empty.
 #[repr(C)]
-#[derive(Drop)]
+#[derive(Clone, Copy, Drop)]
 pub struct LedgerPart {
     pub answer: u64,
     pub start: u64,
@@ -18,7 +18,7 @@ pub struct LedgerPart {
 
 // Read chain's answer, and the number of words that it wrote, 0 on a refusal.
 #[repr(C)]
-#[derive(Drop)]
+#[derive(Clone, Copy, Drop)]
 pub struct ChainCount {
     pub answer: u64,
     pub count: u64,

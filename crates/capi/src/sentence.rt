@@ -9,7 +9,7 @@ use sentences::answer::{SentenceAnswer, SentenceRead};
 
 // The answer, done or a refusal; and how many bytes the sentence has, 0 on a refusal.
 #[repr(C)]
-#[derive(Drop)]
+#[derive(Clone, Copy, Drop)]
 pub struct SentenceBytes {
     pub answer: u64,
     pub length: u64,
@@ -40,7 +40,7 @@ pub fn cindrolf_sentence(step: u64, client: u64, refusal: u64, text: &mut [u8]) 
 
 // 1 where a text is exactly a sentence, with its step, its client and its refusal; each 0 where it is none.
 #[repr(C)]
-#[derive(Drop)]
+#[derive(Clone, Copy, Drop)]
 pub struct SentenceSaid {
     pub found: u64,
     pub step: u64,

@@ -11,7 +11,7 @@ use totals::answer::{SumAnswer, TotalAnswer};
 
 // The answer, and the number of the ledger at a list place, 0 on a refusal.
 #[repr(C)]
-#[derive(Drop)]
+#[derive(Clone, Copy, Drop)]
 pub struct ListedLedger {
     pub answer: u64,
     pub ledger: u64,
@@ -19,7 +19,7 @@ pub struct ListedLedger {
 
 // The answer, and a ledger's entries and the sum of their values, 0 on a refusal.
 #[repr(C)]
-#[derive(Drop)]
+#[derive(Clone, Copy, Drop)]
 pub struct SummedLedger {
     pub answer: u64,
     pub entries: u64,
@@ -28,7 +28,7 @@ pub struct SummedLedger {
 
 // The answer, and the sum of the run, exact and rounded, 0 on a refusal.
 #[repr(C)]
-#[derive(Drop)]
+#[derive(Clone, Copy, Drop)]
 pub struct SummedRun {
     pub answer: u64,
     pub ones: u64,

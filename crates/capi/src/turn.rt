@@ -5,7 +5,7 @@ ghost use Rattle.capi.specs.SharingCalls.{DecideCall};
 
 // The phase that follows, the awaited id, 0 where none is awaited, and what is to be done.
 #[repr(C)]
-#[derive(Drop)]
+#[derive(Clone, Copy, Drop)]
 pub struct NextTurn {
     pub phase: u64,
     pub id: u64,

@@ -8,7 +8,7 @@ use chain::answer::{Answer, WindowAnswer};
 
 // The answer, done or a refusal; 1 where a window was found; and where it starts in the reading, 0 where none was found.
 #[repr(C)]
-#[derive(Drop)]
+#[derive(Clone, Copy, Drop)]
 pub struct WindowFound {
     pub answer: u64,
     pub found: u64,

@@ -2,30 +2,57 @@
 #![tactic(auto)]
 
 use console::Product;
+use std::env::{Env, FillError};
 use std::rt::Files;
-use std::{env, fs, io};
+use std::{fs, io, str};
 
-fn print_heading(rt: &impl Print, name: &str) -> io::Result<()> {
-    println!(rt; "== {name}")
+// As long as any path.
+const NAME_LENGTH: usize = 4096;
+
+fn print_heading(rt: &impl Print, name: &[u8]) -> io::Result<()> {
+    rt.write_all(b"== ")?;
+    rt.write_all(name)?;
+    rt.write_all(b"\n")
 }
 
-fn run_file(rt: &(impl Files + Print), name: &str, product: Product) -> io::Result<()> {
-    console::run(&mut fs::open(rt, name)?, &mut io::writer(rt), product)
+fn run_file(rt: &(impl Files + Print), name: &[u8], product: Product) -> io::Result<()> {
+    match str::from_utf8(name) {
+        Ok(path) => console::run(&mut fs::open(rt, path)?, &mut io::writer(rt), product),
+        Err(_) => Err(io::Error::from(io::ErrorKind::InvalidInput)),
+    }
 }
 
-fn run_argument(rt: &(impl Files + Print), name: &str) -> io::Result<()> {
+fn run_argument(rt: &(impl Files + Print), name: &[u8]) -> io::Result<()> {
     print_heading(rt, name)?;
     run_file(rt, name, Product::Transcript)?;
-    println!(rt; "-- total")?;
+    rt.write_all(b"-- total\n")?;
     run_file(rt, name, Product::Total)
+}
+
+// Whether there is an argument of this number. Standard error says what failed.
+fn try_argument(rt: &(impl Env + Eprint + Files + Print), i: usize) -> io::Result<bool> {
+    let mut name = [0u8; NAME_LENGTH];
+    match rt.arg(i, &mut name) {
+        Err(FillError::NotPresent) => return Ok(false),
+        Err(FillError::TooLong) => {
+            eprintln!(rt; "argument {i}: longer than a path")?;
+            rt.write_all(b"not run\n")?;
+        }
+        Ok(n) => {
+            if let Err(why) = run_argument(rt, &name[..n]) {
+                eprintln!(rt; "argument {i}: {why}")?;
+                rt.write_all(b"not run\n")?;
+            }
+        }
+    }
+    Ok(true)
 }
 
 // A file that did not run leaves a line that no product prints.
 fn main(rt: HostRuntime) -> io::Result<()> {
-    for name in env::args(&rt)?.skip(1) {
-        if let Err(why) = run_argument(&rt, name.as_str()) {
-            eprintln!(rt; "{name}: {why}")?;
-            println!(rt; "not run")?;
+    for i in 1..usize::MAX {
+        if !try_argument(&rt, i)? {
+            break;
         }
     }
     Ok(())

@@ -6,7 +6,7 @@ ghost use Rattle.scores.specs.AddingLaws.{sum_from, four};
 use limits::{SCORE_LIMIT, SCORES_LIMIT};
 
 // No scores or more than the limit; a score above the highest; the sum, in parts of 10^-12.
-#[derive(Drop)]
+#[derive(Clone, Copy, Drop)]
 pub enum Sum {
     WrongCount,
     ScoreTooHigh,

@@ -4,7 +4,7 @@ ghost use Rattle.text.specs.Decimal.{decimal, is_digit, starts, numeral_of};
 ghost use Rattle.text.specs.Puts.{Puts, Room};
 
 // The number of a text that is a numeral of at most 64 bits.
-#[derive(Drop)]
+#[derive(Clone, Copy, Drop)]
 pub enum Numeral {
     Number(u64),
     NotNumeral,

@@ -2,13 +2,13 @@
 use chain::answer::Refusal;
 
 // How many entries a ledger has, and the sum of their values.
-#[derive(Drop)]
+#[derive(Clone, Copy, Drop)]
 pub struct LedgerSum {
     pub entries: u64,
     pub sum: u64,
 }
 
-#[derive(Drop)]
+#[derive(Clone, Copy, Drop)]
 pub enum SumAnswer {
     Sum(LedgerSum),
     Refused(Refusal),
@@ -16,14 +16,14 @@ pub enum SumAnswer {
 
 // The sum of the run is ones × 10^12 + parts, of which the parts are below 10^12: a ledger that is listed twice counts twice, so the
 // sum can leave 64 bits. Rounded to thousandths it cannot.
-#[derive(Drop)]
+#[derive(Clone, Copy, Drop)]
 pub struct RunTotal {
     pub ones: u64,
     pub parts: u64,
     pub rounded: u64,
 }
 
-#[derive(Drop)]
+#[derive(Clone, Copy, Drop)]
 pub enum TotalAnswer {
     Total(RunTotal),
     Refused(Refusal),
