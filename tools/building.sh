@@ -83,9 +83,12 @@ made() { # FILE COMMAND..
     unlock
 }
 
-# Proves a crate and those that it stands on, as many at a time as there are processors: rt lib and rt run take one after the other.
+# Proves a crate and those that it stands on, at most four at a time, since each may take gigabytes: rt lib and rt run take one after
+# the other.
 prove() { # NAME
-    (cd "crates/$1" && rt all check --jobs "$(nproc)")
+    jobs=$(nproc)
+    [ "$jobs" -le 4 ] || jobs=4
+    (cd "crates/$1" && rt all check --jobs "$jobs")
 }
 
 build() { # COMMAND..

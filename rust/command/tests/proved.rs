@@ -63,12 +63,15 @@ fn wrong_files() {
     assert!(!folder.path("run.db").exists());
 }
 
-// What it says on standard error is that it failed; else its status counts.
+// What it says on standard error is that it failed, but for a reader of its output that has gone away; else its status counts.
 #[test]
 fn how_it_ends() {
     let folder = Folder::installed();
     folder.start_instead("session", "echo printed; echo 'it is full' >&2");
     is(shell(&folder, "\"$0\" session </dev/null"), 1, "printed\n", "cindrolf: it is full\n");
+    let gone = "echo printed; echo 'Error: Os { code: 32, kind: BrokenPipe, message: \"Broken pipe\" }' >&2; exit 1";
+    folder.start_instead("session", gone);
+    is(shell(&folder, "\"$0\" session </dev/null"), 1, "printed\n", "");
     folder.start_instead("session", "exit 3");
     is(shell(&folder, "\"$0\" session </dev/null"), 3, "", "");
     folder.start_instead("session", "kill -9 $$");
