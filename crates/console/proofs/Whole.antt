@@ -16,8 +16,8 @@ same-long : (product : Product) (xs ys : List ℕ) → 16384 < length xs → 163
 same-long Transcript xs ys h k = session-shows-history.too_long xs h ∙ sym (session-shows-history.too_long ys k)
 same-long Total xs ys h k = total-shows-history.too_long xs h ∙ sym (total-shows-history.too_long ys k)
 
--- A buffer of one byte more than the limit, of which n were read from what was left.
-pub whole : (product : Product) (left rest old new : Option (List ℕ)) (buffer : List ℕ) (n : ℕ) → length buffer ≡ 16385 → n ≤ length buffer
+-- A buffer of more bytes than the limit, of which n were read from what was left.
+pub whole : (product : Product) (left rest old new : Option (List ℕ)) (buffer : List ℕ) (n : ℕ) → 16384 < length buffer → n ≤ length buffer
     → Consumes left rest (take n buffer) → (n < length buffer → IsAtEnd rest)
     → Appends old new (product_text product (take n buffer)) → WritesProduct product left old new
 whole product None rest old new buffer n size few c end w = (take n buffer, tt, w)

@@ -9,9 +9,9 @@ returns-then-text-lt-TRANSCRIPT_LIMIT c =
     record { answer = t.0; text = t.1 }
 
 pub put_transcript-n-requires : goal.put_transcript-n-requires
-put_transcript-n-requires c = room-for-all _ _ _ (transcript-length _) (omega (arith, c.if-text-lt-TRANSCRIPT_LIMIT.false))
+put_transcript-n-requires c = room-for-all _ _ _ (transcript-length _) (omega arith)
 
 pub returns : goal.returns
 returns c =
-    let t = printed _ _ _ (transcript-length _) (omega (arith, c.if-text-lt-TRANSCRIPT_LIMIT.false)) _ _ c.put_transcript-n.ensures in
+    let t = printed _ _ _ (transcript-length _) (omega arith) _ _ c.put_transcript-n.ensures in
     record { answer = t.0; text = t.1 }
