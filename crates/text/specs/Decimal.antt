@@ -1,8 +1,6 @@
 -- Decimal numerals as ASCII bytes: the numeral of a number, and the number that a numeral stands for.
-use Rattle.std.specs.Prelude.{ℕ, zero, suc, ◌+◌, ◌-◌, ◌*◌, ◌/◌, ◌%◌, ◌^◌, Bool, true, false, not, cond, ◌&&◌, ltb, leb, eqb}
+use Rattle.std.specs.Prelude.{ℕ, zero, suc, ◌+◌, ◌-◌, ◌*◌, ◌/◌, ◌%◌, ◌^◌, Bool, true, false, not, cond, ◌&&◌, ltb, leb, eqb, Option, Some, None}
 use mathlib.Core.List.{List, [], ◌∷◌, ◌++◌, foldl}
-use Rattle.text.specs.declared.decimal.Numeral.{Numeral}
-use Rattle.text.specs.declared.decimal.Numeral.TheVariants.{Number, NotNumeral}
 
 -- The digits of n, the most significant first. The fuel bounds the digits before the last: n itself is enough.
 -- What the `let` binds waits for the test, so that a large fuel costs nothing.
@@ -35,5 +33,5 @@ unfoldable pub value : List ℕ → ℕ
 value bs = value_from 0 bs
 
 -- The number, where the bytes are a numeral as `decimal` writes them and the number has at most 64 bits.
-unfoldable pub numeral_of : List ℕ → Numeral
-numeral_of bs = cond (starts bs && all_digits bs && ltb (value bs) (2 ^ 64)) (Number (value bs)) NotNumeral
+unfoldable pub numeral_of : List ℕ → Option ℕ
+numeral_of bs = cond (starts bs && all_digits bs && ltb (value bs) (2 ^ 64)) (Some (value bs)) None

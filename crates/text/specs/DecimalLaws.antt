@@ -1,12 +1,11 @@
 -- A numeral and its number determine each other; the length and the bytes of a numeral.
-use Rattle.std.specs.Prelude.{ℕ, zero, suc, ◌+◌, ◌-◌, ◌*◌, ◌/◌, ◌%◌, ◌^◌, ◌<◌, ◌≤◌, ◌≡◌, refl, Bool, true, false, not, ◌&&◌, length, get_or, ltb, leb, eqb}
+use Rattle.std.specs.Prelude.{ℕ, zero, suc, ◌+◌, ◌-◌, ◌*◌, ◌/◌, ◌%◌, ◌^◌, ◌<◌, ◌≤◌, ◌≡◌, refl, Bool, true, false, not, ◌&&◌, length, get_or, ltb, leb, eqb, Some, None}
 use Rattle.std.proofs.Common.{arith, pow-suc, sym, ap, ◌∙◌, ⊎_elim, lt-ltb, le-leb, ne_eqb, leb-true}
 use Rattle.std.proofs.Math.Decide.{dec_lt}
 use Rattle.std.proofs.Math.Bool.{and-eq-true_iff}
 use mathlib.Mathlib.Data.Bool.Basic.{dichotomy}
 use mathlib.Core.List.{List, [], ◌∷◌, ◌++◌, foldl-append, append-nil, append_assoc}
 use Rattle.std.proofs.lemmas.Bool.{eqb-false, not-true}
-use Rattle.text.specs.declared.decimal.Numeral.TheVariants.{Number, NotNumeral}
 use Rattle.text.specs.Decimal.{decimal, is_digit, all_digits, starts, value_from, value, numeral_of}
 use Rattle.text.specs.DigitLaws.{decimal-one, decimal-more, one-length, more-length, by_digits}
 
@@ -112,7 +111,7 @@ unfolding starts
 starts-decimal zero = rw (decimal-one 0 (omega arith))
 starts-decimal (suc n) = leads-starts (decimal (suc n)) (leads-decimal (suc n) (omega arith))
 
-pub parse-print : (n : ℕ) → n < 2 ^ 64 → numeral_of (decimal n) ≡ Number n
+pub parse-print : (n : ℕ) → n < 2 ^ 64 → numeral_of (decimal n) ≡ Some n
 unfolding numeral_of
 parse-print n l = rw (starts-decimal n, all-decimal n, value-decimal n, lt-ltb n (2 ^ 64) l)
 
@@ -151,7 +150,7 @@ numeral-of (b ∷ c ∷ bs) s h =
     let q : 0 * 10 + (b - 48) ≡ b - 48 = omega arith in
     rw q (ap (λ (ds : List ℕ). ds ++ c ∷ bs) (one_of b t.0) ∙ more_of (b - 48) (c ∷ bs) (omega (arith, n)) t.1)
 
-pub print-parse : (bs : List ℕ) (n : ℕ) → numeral_of bs ≡ Number n → bs ≡ decimal n
+pub print-parse : (bs : List ℕ) (n : ℕ) → numeral_of bs ≡ Some n → bs ≡ decimal n
 unfolding numeral_of
 print-parse bs n e = ⊎_elim is-not is (dichotomy (starts bs && all_digits bs && ltb (value bs) (2 ^ 64)))
   where
@@ -159,9 +158,9 @@ print-parse bs n e = ⊎_elim is-not is (dichotomy (starts bs && all_digits bs &
     is h =
         let t = (and-eq-true_iff (starts bs && all_digits bs) (ltb (value bs) (2 ^ 64))).0 h in
         let u = (and-eq-true_iff (starts bs) (all_digits bs)).0 t.0 in
-        let f : Number (value bs) ≡ Number n = rw h at e in
+        let f : Some (value bs) ≡ Some n = rw h at e in
         let q : value bs ≡ n = cc in
         numeral-of bs u.0 u.1 ∙ ap decimal q
 
     is-not : starts bs && all_digits bs && ltb (value bs) (2 ^ 64) ≡ false → bs ≡ decimal n
-    is-not h = let f : NotNumeral ≡ Number n = rw h at e in let z : ◌≡◌ {A = ℕ} 0 1 = cc in absurd (omega arith)
+    is-not h = let f : None ≡ Some n = rw h at e in let z : ◌≡◌ {A = ℕ} 0 1 = cc in absurd (omega arith)

@@ -1,33 +1,31 @@
 -- Where a byte stands first.
-use Prim.Native.Nat.{ℕ, suc, ◌+◌, ◌<◌, ◌≤◌}
-use Rattle.std.proofs.Common.{arith, add-one, drop_of_length-le, drop-cons}
-use Rattle.std.specs.Prelude.{◌≡◌, cond, List, [], ◌∷◌, length, get_or, drop, eqb}
-use borrow.Author.Tests.{eq-eqb, ne_eqb}
+use Rattle.std.specs.Prelude.{ℕ, suc, ◌+◌, ◌≤◌, ◌≡◌, ◌==◌, refl, Bool, true, false, not, cond, List, [], ◌∷◌, length, position, unwrap_or, eqb, ltb}
+use Rattle.std.specs.List.{position_or_len}
+use Rattle.std.proofs.Common.{arith, ap, ◌∙◌, ⊎_elim, ltb-false}
+use mathlib.Mathlib.Data.Bool.Basic.{dichotomy}
 
 -- How many bytes stand before the first byte x; all of them where there is none.
 unfoldable pub index_of : ℕ → List ℕ → ℕ
 index_of x [] = 0
 index_of x (b ∷ bs) = cond (eqb b x) 0 (suc (index_of x bs))
 
--- A search from one place on that has come to another.
-unfoldable pub Searched : ℕ → List ℕ → ℕ → ℕ → Type 0
-Searched x bs from i = from + index_of x (drop from bs) ≡ i + index_of x (drop i bs)
+few : (x : ℕ) (bs : List ℕ) → index_of x bs ≤ length bs
+unfolding index_of
+few x [] = omega arith
+few x (b ∷ bs) = ⊎_elim
+    (λ h. let z : index_of x (b ∷ bs) ≡ suc (index_of x bs) = rw h in omega (arith, z, few x bs))
+    (λ h. let z : index_of x (b ∷ bs) ≡ 0 = rw h in omega (arith, z))
+    (dichotomy (eqb b x))
 
-module _ (x : ℕ) (bs : List ℕ) (from i : ℕ) (s : Searched x bs from i) where
-  pub search-found : i < length bs → get_or bs i 0 ≡ x → i ≡ from + index_of x (drop from bs)
-  unfolding index_of Searched
-  search-found m e =
-      let z : index_of x (drop i bs) ≡ 0 = rw (drop-cons bs i 0 m, eq-eqb (get_or bs i 0) x e) in
-      omega (arith, s, z)
+swap : (t : Bool) (n : ℕ) → cond (not t) (1 + n) 0 ≡ cond t 0 (suc n)
+swap true n = refl
+swap false n = omega arith
 
-  pub search-on : i < length bs → (get_or bs i 0 ≡ x → ⊥) → Searched x bs from (i + 1)
-  unfolding index_of Searched
-  search-on m n =
-      let z : index_of x (drop i bs) ≡ suc (index_of x (drop (suc i) bs)) = rw (drop-cons bs i 0 m, ne_eqb (get_or bs i 0) x n) in
-      rw (add-one i) (omega (arith, s, z))
+same : (x : ℕ) (bs : List ℕ) → position_or_len (λ b. b == x) bs ≡ index_of x bs
+unfolding index_of
+same x [] = refl
+same x (b ∷ bs) = ap (λ (n : ℕ). cond (not (b == x)) (1 + n) 0) (same x bs) ∙ swap (eqb b x) (index_of x bs)
 
-  pub search-none : length bs ≤ i → i ≡ from + index_of x (drop from bs)
-  unfolding index_of Searched
-  search-none m =
-      let z : index_of x (drop i bs) ≡ 0 = rw (drop_of_length-le bs m) in
-      omega (arith, s, z)
+-- The library's first place of the byte, or else the length.
+pub first-is : (x : ℕ) (bs : List ℕ) → unwrap_or (position (λ b. b == x) bs) (length bs) ≡ index_of x bs
+first-is x bs = rw (same x bs) (⊎_elim (λ h. rw h (omega (arith, few x bs, ltb-false _ _ h))) (λ h. rw h) (dichotomy (ltb (index_of x bs) (length bs))))

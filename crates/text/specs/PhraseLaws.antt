@@ -1,8 +1,9 @@
--- The test of two byte strings is true exactly when they are equal; what the loop that compares them meets.
-use Rattle.std.specs.Prelude.{ℕ, ◌+◌, ◌<◌, ◌≤◌, ◌≡◌, refl, true, false, List, [], ◌∷◌, length, get_or, take, eqb}
-use Rattle.std.proofs.Common.{arith, add-one, sym, ap, subst, ◌∙◌, ⊎_elim, take-suc, take_all, eqb-true, eq-eqb}
+-- The test of two byte strings is true exactly when they are equal.
+use Rattle.std.specs.Prelude.{ℕ, ◌≡◌, refl, true, false, List, [], ◌∷◌, eqb}
+use Rattle.std.proofs.Common.{arith, subst, ⊎_elim, eqb-true, eq-eqb}
 use Rattle.std.proofs.Math.Bool.{and-eq-true_iff}
 use mathlib.Mathlib.Data.Bool.Basic.{dichotomy}
+use lib.Pointwise.{pointwise}
 use Rattle.text.specs.Phrase.{same_bytes}
 
 pub same-equal : (xs ys : List ℕ) → same_bytes xs ys ≡ true → xs ≡ ys
@@ -27,17 +28,10 @@ equal-same xs ys e = subst (λ (l : List ℕ). same_bytes xs l ≡ true) e (same
 pub differ-not-same : (xs ys : List ℕ) → (xs ≡ ys → ⊥) → same_bytes xs ys ≡ false
 differ-not-same xs ys n = ⊎_elim (λ h. h) (λ h. absurd (n (same-equal xs ys h))) (dichotomy (same_bytes xs ys))
 
--- Byte by byte: the bytes so far are the same.
-module _ (xs ys : List ℕ) where
-  pub same_turn : (i : ℕ) → length xs ≡ length ys → i < length ys → get_or xs i 0 ≡ get_or ys i 0 → take i xs ≡ take i ys
-      → take (i + 1) xs ≡ take (i + 1) ys
-  same_turn i n l e h = rw (add-one i, take-suc xs i 0 (omega arith), take-suc ys i 0 l, e, h)
-
-  pub same_end : (i : ℕ) → length xs ≡ length ys → length ys ≤ i → take i xs ≡ take i ys → true ≡ same_bytes xs ys
-  same_end i n l h = sym (equal-same xs ys (sym (take_all i xs (omega arith)) ∙ h ∙ take_all i ys l))
-
-  pub not-same-at : (i : ℕ) → (get_or xs i 0 ≡ get_or ys i 0 → ⊥) → false ≡ same_bytes xs ys
-  not-same-at i n = sym (differ-not-same xs ys (λ e. n (ap (λ (l : List ℕ). get_or l i 0) e)))
-
-  pub not-same-length : (length xs ≡ length ys → ⊥) → false ≡ same_bytes xs ys
-  not-same-length n = sym (differ-not-same xs ys (λ e. n (ap (length {A = ℕ}) e)))
+-- The library's test of equal slices is the same.
+pub equal-is : (xs ys : List ℕ) → pointwise eqb xs ys ≡ same_bytes xs ys
+unfolding same_bytes
+equal-is [] [] = refl
+equal-is [] (y ∷ ys) = refl
+equal-is (x ∷ xs) [] = refl
+equal-is (x ∷ xs) (y ∷ ys) = rw (equal-is xs ys)

@@ -20,6 +20,10 @@ room-first a b h = record { fits = omega (arith, h.fits, length-append a b) }
 pub puts-length : {text bytes after : List ℕ} {at end : ℕ} → Puts text at bytes after end → length after ≡ length text
 puts-length {text} {bytes} {after} {at} p = ap (length {A = ℕ}) p.stored ∙ length-sets text at bytes
 
+-- No piece.
+pub puts-none : (text : List ℕ) (at : ℕ) → Puts text at [] text at
+puts-none text at = record { ends = omega arith; stored = refl }
+
 -- A piece, and then another.
 module _ {text mid a : List ℕ} {at m : ℕ} (p : Puts text at a mid m) where
   pub room_next : (b : List ℕ) → Room text at (a ++ b) → Room mid m b

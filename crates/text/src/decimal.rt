@@ -1,16 +1,11 @@
 // Decimal numerals, written and read.
 ghost use Rattle.std.specs.Prelude.{◌≡◌, ◌++◌, ◌+◌, ◌%◌};
-ghost use Rattle.text.specs.Decimal.{decimal, is_digit, starts, numeral_of};
+ghost use Rattle.text.specs.Decimal.{decimal, starts, numeral_of};
 ghost use Rattle.text.specs.Puts.{Puts, Room};
 
-// The number of a text that is a numeral of at most 64 bits.
-#[derive(Clone, Copy, Drop)]
-pub enum Numeral {
-    Number(u64),
-    NotNumeral,
-}
+use crate::writer::Writer;
 
-const LARGEST: u64 = 0xffff_ffff_ffff_ffff;
+const LARGEST: u64 = u64::MAX;
 
 fn digit(n: u64) -> u8
     ensures { result ≡ 48 + n % 10 }
@@ -18,30 +13,27 @@ fn digit(n: u64) -> u8
     48 + (n % 10) as u8
 }
 
-pub fn put_decimal(text: &mut [u8], at: usize, n: u64) -> usize
-    requires { Room text.old at (decimal n) }
-    ensures { Puts text.old at (decimal n) text.new result }
-{
-    if n < 10 {
-        return crate::phrase::put_byte(text, at, digit(n));
+impl<'a> Writer<'a> {
+    pub fn put_decimal(&mut self, n: u64)
+        requires { Room self.old.text.now self.old.at (decimal n) }
+        ensures puts { Puts self.old.text.now self.old.at (decimal n) self.new.text.now self.new.at }
+        ensures same_text { self.new.text.ghost_name ≡ self.old.text.ghost_name }
+    {
+        if n >= 10 {
+            self.put_decimal(n / 10);
+        }
+        self.put_byte(digit(n));
     }
-    let last = put_decimal(text, at, n / 10);
-    crate::phrase::put_byte(text, last, digit(n))
-}
 
-// A phrase, and a numeral after it.
-pub fn put_counted(text: &mut [u8], at: usize, word: &[u8], n: u64) -> usize
-    requires { Room text.old at (word.now ++ decimal n) }
-    ensures { Puts text.old at (word.now ++ decimal n) text.new result }
-{
-    let e = crate::phrase::put_phrase(text, at, word);
-    put_decimal(text, e, n)
-}
-
-fn is_digit(b: u8) -> bool
-    ensures { result ≡ is_digit b }
-{
-    if b < 48 { false } else { b <= 57 }
+    // A phrase, and a numeral after it.
+    pub fn put_counted(&mut self, word: &[u8], n: u64)
+        requires { Room self.old.text.now self.old.at (word.now ++ decimal n) }
+        ensures puts { Puts self.old.text.now self.old.at (word.now ++ decimal n) self.new.text.now self.new.at }
+        ensures same_text { self.new.text.ghost_name ≡ self.old.text.ghost_name }
+    {
+        self.put_phrase(word);
+        self.put_decimal(n);
+    }
 }
 
 fn starts(bytes: &[u8]) -> bool
@@ -53,25 +45,22 @@ fn starts(bytes: &[u8]) -> bool
     bytes[0] != 48
 }
 
-pub fn parse_decimal(bytes: &[u8]) -> Numeral
+pub fn parse_decimal(bytes: &[u8]) -> Option<u64>
     ensures { result ≡ numeral_of bytes.now }
 {
     if !starts(bytes) {
-        return Numeral::NotNumeral;
+        return None;
     }
-    let mut value: u64 = 0;
-    let mut i = 0;
-    while i < bytes.len() {
-        let b = bytes[i];
-        if !is_digit(b) {
-            return Numeral::NotNumeral;
+    let mut value = 0;
+    for &b in bytes {
+        if !b.is_ascii_digit() {
+            return None;
         }
-        let d = (b - 48) as u64;
+        let d = u64::from(b - b'0');
         if value > (LARGEST - d) / 10 {
-            return Numeral::NotNumeral;
+            return None;
         }
         value = value * 10 + d;
-        i += 1;
     }
-    Numeral::Number(value)
+    Some(value)
 }

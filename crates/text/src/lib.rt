@@ -5,3 +5,4 @@ pub mod decimal;
 pub mod find;
 pub mod lent;
 pub mod phrase;
+pub mod writer;

@@ -1,35 +1,32 @@
-use Rattle.std.proofs.Common.{◌-◌, arith, sym, ◌∙◌}
+use Rattle.std.proofs.Common.{get_or, arith, sym, ◌∙◌}
 use Rattle.text.specs.DecimalLaws.{digit-range}
-use Rattle.text.specs.ParseDecimalLaws.{number-start, number-not, number-turn, number-other, number-large, number-end}
+use Rattle.text.specs.ParseDecimalLaws.{digit-is, number-start, number-not, number-turn, number-other, number-large, number-end}
 use Rattle.text.proofs.decimal.parse_decimal.Goals as goal
 
 pub returns-then-not-starts : goal.returns-then-not-starts
 returns-then-not-starts c = number-not _ (sym c.starts.ensures ∙ c.if-not-starts.true)
 
-pub loop-i-init : goal.loop-i-init
-loop-i-init c = (omega arith, omega arith, number-start _ (sym c.starts.ensures ∙ c.if-not-starts.false))
+pub loop-b-init : goal.loop-b-init
+loop-b-init c = (omega arith, number-start _ (sym c.starts.ensures ∙ c.if-not-starts.false))
 
-pub returns-then-not-is_digit : goal.returns-then-not-is_digit
-returns-then-not-is_digit c =
-    let h = sym c.is_digit.ensures ∙ c.if-not-is_digit.true in
-    number-other _ _ _ _ c.loop-i.invariant.2 c.loop-i-test.true h
-
-pub overflow_sub-d : goal.overflow_sub-d
-overflow_sub-d c = let r = digit-range _ (sym c.is_digit.ensures ∙ c.if-not-is_digit.false) in omega arith
+pub returns-then-not-is_ascii_digit : goal.returns-then-not-is_ascii_digit
+returns-then-not-is_ascii_digit c =
+    let h = digit-is (get_or c.args.bytes.now c.loop-b.b-index 0) ∙ sym c.is_ascii_digit.ensures.value ∙ c.if-not-is_ascii_digit.true in
+    number-other _ _ _ _ c.loop-b.invariant.1 c.loop-b-test.true h
 
 pub returns-then-value-d : goal.returns-then-value-d
 returns-then-value-d c =
-    let h = sym c.is_digit.ensures ∙ c.if-not-is_digit.false in
+    let h = digit-is (get_or c.args.bytes.now c.loop-b.b-index 0) ∙ sym c.is_ascii_digit.ensures.value ∙ c.if-not-is_ascii_digit.false in
     let r = digit-range _ h in
-    let inv = c.loop-i.invariant in
-    number-large _ _ _ _ inv.2 c.loop-i-test.true h (omega arith)
+    let inv = c.loop-b.invariant in
+    number-large _ _ _ _ inv.1 c.loop-b-test.true h (omega arith)
 
-pub loop-i-preserved : goal.loop-i-preserved
-loop-i-preserved c =
-    let h = sym c.is_digit.ensures ∙ c.if-not-is_digit.false in
+pub loop-b-preserved : goal.loop-b-preserved
+loop-b-preserved c =
+    let h = digit-is (get_or c.args.bytes.now c.loop-b.b-index 0) ∙ sym c.is_ascii_digit.ensures.value ∙ c.if-not-is_ascii_digit.false in
     let r = digit-range _ h in
-    let inv = c.loop-i.invariant in
-    (omega arith, omega arith, number-turn _ _ _ _ inv.2 c.loop-i-test.true h)
+    let inv = c.loop-b.invariant in
+    (omega arith, rw c.from-d.ensures (number-turn _ _ _ _ inv.1 c.loop-b-test.true h))
 
 pub returns : goal.returns
-returns c = number-end _ _ _ _ c.loop-i.invariant.2 c.loop-i-test.false c.loop-i.invariant.1
+returns c = number-end _ _ _ _ c.loop-b.invariant.1 c.loop-b-test.false c.loop-b.invariant.0

@@ -1,16 +1,12 @@
-use Rattle.std.proofs.Common.{◌-◌, refl, arith}
-use Rattle.text.specs.Find.{Searched, search-found, search-on, search-none}
+use Rattle.std.proofs.Common.{◌+◌, ◌-◌, arith, ap, ◌∙◌, length, drop, take_all, length-drop}
+use Rattle.text.specs.Find.{index_of, first-is}
 use Rattle.text.proofs.find.index_from.Goals as goal
 
-pub loop-i-init : goal.loop-i-init
-unfolding Searched
-loop-i-init c = (omega arith, refl)
-
-pub returns-then-text-i : goal.returns-then-text-i
-returns-then-text-i c = record { is = search-found _ _ _ _ c.loop-i.invariant.1 c.loop-i-test.true c.if-text-i.true; within = omega arith }
-
-pub loop-i-preserved : goal.loop-i-preserved
-loop-i-preserved c = (omega arith, search-on _ _ _ _ c.loop-i.invariant.1 c.loop-i-test.true c.if-text-i.false)
-
-pub returns : goal.returns
-returns c = record { is = search-none _ _ _ _ c.loop-i.invariant.1 c.loop-i-test.false; within = omega arith }
+pub returns-clause-is : goal.returns-clause-is
+returns-clause-is c =
+    let rest = drop c.args.from c.args.text.now in
+    ap (λ n. c.args.from + n) (
+    c.unwrap_or.ensures
+    ∙ rw c.first_place.ensures (first-is c.args.byte _)
+    ∙ ap (index_of c.args.byte) (take_all (length c.args.text.now - c.args.from) rest (omega (arith, length-drop c.args.from c.args.text.now)))
+    )
