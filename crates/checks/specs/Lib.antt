@@ -1,3 +1,4 @@
 pub mod Test
 pub mod TestLaws
 pub mod Checks
+pub mod ResultLaws
