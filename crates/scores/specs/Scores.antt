@@ -1,9 +1,9 @@
 -- Quality scores: the part of each, which lists of them are taken, and the sum of such a list.
-use Rattle.std.specs.Prelude.{ℕ, zero, suc, ◌+◌, ◌*◌, ◌^◌, ◌≤◌, ◌≡◌, Bool, cond, List, [], ◌∷◌, length, get_or, leb}
+use Rattle.std.specs.Prelude.{ℕ, zero, suc, ◌+◌, ◌*◌, ◌^◌, ◌≤◌, ◌≡◌, Bool, cond, List, [], ◌∷◌, length, get_or, leb, Result, Ok, Err}
 use Rattle.limits.specs.Limits.{scores_limit, score_limit}
 use Rattle.checks.specs.Test.{Test, same, less, at_most, either, is_not, every, test}
-use Rattle.scores.specs.declared.sum.Sum.{Sum}
-use Rattle.scores.specs.declared.sum.Sum.TheVariants.{WrongCount, ScoreTooHigh, Parts}
+use Rattle.scores.specs.declared.sum.SumError.{SumError}
+use Rattle.scores.specs.declared.sum.SumError.TheVariants.{WrongCount, ScoreTooHigh}
 
 -- Score q stands for the error probability 10^(-q/40): e parts of 10^-12 are at most that.
 abbrev pub within : ℕ → ℕ → Bool
@@ -32,5 +32,5 @@ wrong_count qs = either (same (length qs) 0) (less scores_limit (length qs))
 abbrev pub too_high : List ℕ → Test
 too_high qs = is_not (every (λ _ _ q. at_most q score_limit) qs)
 
-unfoldable pub sum_of : List ℕ → Sum
-sum_of qs = cond (test (wrong_count qs)) WrongCount (cond (test (too_high qs)) ScoreTooHigh (Parts (part_sum qs)))
+unfoldable pub sum_of : List ℕ → Result ℕ SumError
+sum_of qs = cond (test (wrong_count qs)) (Err WrongCount) (cond (test (too_high qs)) (Err ScoreTooHigh) (Ok (part_sum qs)))

@@ -1,13 +1,12 @@
 // The part of every score, as a table: for score q the largest whole E with E^40 * 10^q at most 10^480.
 //
 // The numbers are only here; the proof has them from its goal, and one test that the checker computes shows that they follow the rule. A constant
-// array is stored on the stack wherever code names it. So `parts` returns the table once for a list, and `part` takes it by reference.
-// docs/PERFORMANCE.md says what the stores cost.
+// that is an array is stored on the stack wherever code names it, and so the constant is a reference to one.
 ghost use Rattle.std.specs.Prelude.{◌≡◌, ◌≤◌};
 ghost use Rattle.limits.specs.Limits.{score_limit};
 ghost use Rattle.scores.specs.Scores as def;
 
-const PARTS: [u64; 373] = [
+const PARTS: &[u64; 373] = &[
     1000000000000,
     944060876285,
     891250938133,
@@ -383,16 +382,15 @@ const PARTS: [u64; 373] = [
     501,
 ];
 
-// A constant array is stored again wherever it is named: so the table is made once for a list of scores, and not for each score.
-pub fn parts() -> [u64; 373]
-    ensures { def.Table result }
+pub fn parts() -> &'static [u64; 373]
+    ensures { def.Table result.now }
 {
     PARTS
 }
 
-pub fn part(parts: &[u64; 373], q: u16) -> u64
-    requires { (def.Table parts.now) × (q ≤ score_limit) }
+pub fn part(q: u16) -> u64
+    requires { q ≤ score_limit }
     ensures { result ≡ def.part q }
 {
-    parts[q as usize]
+    parts()[usize::from(q)]
 }

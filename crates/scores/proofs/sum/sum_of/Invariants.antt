@@ -1,17 +1,10 @@
-use Rattle.std.proofs.Common.{◌≤◌, ◌-◌, ◌*◌, ◌^◌, ◌≡◌}
-use lib.ListN.{length, drop}
+use Rattle.std.proofs.Common.{◌+◌, ◌*◌, ◌^◌, ◌<◌, ◌≡◌, length}
 use Rattle.scores.specs.Scores.{sum_of}
 use Rattle.scores.specs.AddingLaws.{sum_from}
 use Rattle.scores.proofs.sum.sum_of.Given as goal
 
-abbrev pub invariant-loop-i : goal.invariant-loop-i
-invariant-loop-i l = (l.i ≤ length l.scores) × ((l.sum ≤ l.i * 10 ^ 12) × (sum_of l.scores ≡ sum_from l.sum (drop l.i l.scores)))
+abbrev pub invariant-loop-four : goal.invariant-loop-four
+invariant-loop-four l = (l.sum + length l.rest * 10 ^ 12 < 2 ^ 64) × (sum_of l.scores ≡ sum_from l.sum l.rest)
 
-abbrev pub decreases-loop-i : goal.decreases-loop-i
-decreases-loop-i l = length l.scores - l.i
-
-abbrev pub invariant-loop-i-2 : goal.invariant-loop-i-2
-invariant-loop-i-2 l = (l.i ≤ length l.scores) × ((l.sum ≤ l.i * 10 ^ 12) × (sum_of l.scores ≡ sum_from l.sum (drop l.i l.scores)))
-
-abbrev pub decreases-loop-i-2 : goal.decreases-loop-i-2
-decreases-loop-i-2 l = length l.scores - l.i
+abbrev pub decreases-loop-four : goal.decreases-loop-four
+decreases-loop-four l = length l.rest
