@@ -36,7 +36,7 @@ refused-step (set_rights c word) m r e = ap (λ (ws : List ℕ). kept m.log m.ma
     (first-refused (set_rights_checks c word m) Refused Done (Refused r) m.rights _ not_done e)
   where
     not_done : Done ≡ Refused r → ⊥
-    not_done q = let z : ◌≡◌ {A = ℕ} 0 1 = cc in omega arith
+    not_done q = cc
 
 -- Each step has an answer.
 as_many : (xs : List Change) (m : Kept) → length (change_answers xs m) ≡ length xs

@@ -1,6 +1,5 @@
 -- The proofs of what the theorems need.
 pub mod Turns
-pub mod Numbers
 pub mod Places
 pub mod Invariant
 pub mod Withdrawn

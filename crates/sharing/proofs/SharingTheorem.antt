@@ -346,26 +346,17 @@ wait-free base s r = record {
 }
 
 module _ {M : Machine} (base : M.Log) (s : State M) where
-  not-idle : {P : Type 0} → ◌≡◌ {A = Phase M} idle halted → P
-  not-idle e = let z : ◌≡◌ {A = ℕ} 0 1 = cc in absurd (omega arith)
-
-  not-asked : {P : Type 0} (a : Asking M) (l : Bool) → asked a l ≡ halted → P
-  not-asked a l e = let z : ◌≡◌ {A = ℕ} 0 1 = cc in absurd (omega arith)
-
-  not-waiting : {P : Type 0} (m : Append M) → waiting m ≡ halted → P
-  not-waiting m e = let z : ◌≡◌ {A = ℕ} 0 1 = cc in absurd (omega arith)
-
   abbrev Silent : ℕ → State M → Type 0
   Silent c t = (t.sent ≡ s.sent) × (t.told ≡ s.told) × (t.denied ≡ s.denied) × (((t.controllers c).phase ≡ halted) ⊎ (t.controllers c ≡ starting base))
 
   silent : (c : ℕ) → (s.controllers c).phase ≡ halted → (t : State M) → Move base s c t → Silent c t
-  silent c p t (ask x q) = not-idle (sym q ∙ p)
+  silent c p t (ask x q) = absurd (cc (sym q ∙ p))
   silent c p t (look n runs h w f) = absurd (subst Runs p runs)
-  silent c p t (read a l n q h e w) = not-asked a l (sym q ∙ p)
-  silent c p t (refuse a q e) = not-asked a true (sym q ∙ p)
-  silent c p t (send a l id q ok new) = not-asked a l (sym q ∙ p)
+  silent c p t (read a l n q h e w) = absurd (cc (sym q ∙ p))
+  silent c p t (refuse a q e) = absurd (cc (sym q ∙ p))
+  silent c p t (send a l id q ok new) = absurd (cc (sym q ∙ p))
   silent c p t (store m h q e) = (refl, refl, refl, inl p)
-  silent c p t (tell m r q h e) = not-waiting m (sym q ∙ p)
+  silent c p t (tell m r q h e) = absurd (cc (sym q ∙ p))
   silent c p t (leave runs) = absurd (subst Runs p runs)
   silent c p t crash = (refl, refl, refl, inr (put_same s.controllers c (starting base)))
   silent c p t halt = (refl, refl, refl, inl (ap (λ (k : Controller M). k.phase) (put_same s.controllers c (in_phase halted (s.controllers c)))))

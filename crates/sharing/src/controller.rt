@@ -1,6 +1,6 @@
 // A controller of a shared log: its phase, the events, and what to do next.
 
-#[derive(Clone, Copy, Drop)]
+#[derive(Clone, Copy, Debug, PartialEq, Eq)]
 pub enum Phase {
     // It has nothing to do.
     Idle,
@@ -14,7 +14,7 @@ pub enum Phase {
     Halted,
 }
 
-#[derive(Clone, Copy, Drop)]
+#[derive(Clone, Copy, Debug, PartialEq, Eq)]
 pub enum Seen {
     // Somebody asks for a request.
     Asked,
@@ -36,26 +36,38 @@ pub enum Seen {
     OtherHistory,
 }
 
-#[derive(Clone, Copy, Drop)]
+#[derive(Clone, Copy, Debug, PartialEq, Eq)]
 pub enum Act {
-    Nothing,
+    Nothing = 0,
     // Read the rows after those known, and take their steps on the copy; but not past a row with the awaited id.
-    Read,
+    Read = 1,
     // Take the request on the copy, and take it back: what is stored comes by reading.
-    Try,
+    Try = 2,
     // Send the append that the phase names, the first time or again.
-    Append,
+    Append = 3,
     // Take the request on the copy, for good, and give its answers.
-    Tell,
+    Tell = 4,
     // Give the refusals.
-    Refuse,
+    Refuse = 5,
     // Say that the request was not taken, and never will be.
-    Withdraw,
+    Withdraw = 6,
     // Say that it is unknown whether the request was or will be taken.
-    Unknown,
+    Unknown = 7,
 }
 
-#[derive(Clone, Copy, Drop)]
+// Its number, as it crosses the C boundary.
+impl From<Act> for u64 {
+    ghost use Rattle.std.specs.Prelude.{◌≡◌};
+    ghost use Rattle.sharing.specs.Numbers.{act_number};
+
+    ghost from_gives = { λ act number. number ≡ act_number act };
+
+    fn from(act: Act) -> u64 {
+        act as u64
+    }
+}
+
+#[derive(Clone, Copy, Debug, PartialEq, Eq)]
 pub struct Turn {
     pub phase: Phase,
     pub act: Act,

@@ -1,209 +1,56 @@
-// What a controller of a shared log does next: pure decisions, which the drivers of the engines call. A driver does all reading and writing.
+// What a controller of a shared log does next: a pure decision, which the drivers of the engines call. A driver does all reading and writing.
 #![tactic(auto)]
 
 pub mod id;
 pub mod number;
 
 ghost use Rattle.std.specs.Prelude.{◌≡◌};
-ghost use Rattle.sharing.specs.Turns.{when_idle, when_accepted, when_asked, when_current, when_next, when_placed, when_waiting, when_halted, turn};
+ghost use Rattle.sharing.specs.Turns.{to, turn};
 
 use sharing::controller::{Act, Phase, Seen, Turn};
 
-fn when_idle(seen: Seen) -> Turn
-    ensures { result ≡ when_idle seen }
+fn to(phase: Phase, act: Act) -> Turn
+    ensures { result ≡ to phase act }
 {
-    let nothing = Turn {
-        phase: Phase::Idle,
-        act: Act::Nothing,
-    };
-    match seen {
-        Seen::Asked => Turn {
-            phase: Phase::Asked,
-            act: Act::Try,
-        },
-        Seen::Read(_) => nothing,
-        Seen::Next(_, _) => nothing,
-        Seen::Placed(_, _) => nothing,
-        Seen::Accepted(_) => nothing,
-        Seen::Refused => nothing,
-        Seen::Silence => nothing,
-        Seen::Stop => nothing,
-        Seen::OtherHistory => Turn {
-            phase: Phase::Halted,
-            act: Act::Nothing,
-        },
-    }
+    Turn { phase, act }
 }
 
-// An id of 0 is none, and without an id nothing is sent.
-fn when_accepted(id: u64) -> Turn
-    ensures { result ≡ when_accepted id }
-{
-    if id == 0 {
-        Turn {
-            phase: Phase::Idle,
-            act: Act::Withdraw,
-        }
-    } else {
-        Turn {
-            phase: Phase::Waiting(id),
-            act: Act::Append,
-        }
-    }
-}
-
-// A refusal counts only once the rows were read after the asking.
-fn when_asked(seen: Seen) -> Turn
-    ensures { result ≡ when_asked seen }
-{
-    let read_first = Turn {
-        phase: Phase::Asked,
-        act: Act::Read,
-    };
-    match seen {
-        Seen::Asked => read_first,
-        Seen::Read(_) => Turn {
-            phase: Phase::Current,
-            act: Act::Try,
-        },
-        Seen::Next(_, _) => read_first,
-        Seen::Placed(_, _) => read_first,
-        Seen::Accepted(id) => when_accepted(id),
-        Seen::Refused => read_first,
-        Seen::Silence => read_first,
-        Seen::Stop => Turn {
-            phase: Phase::Idle,
-            act: Act::Withdraw,
-        },
-        Seen::OtherHistory => Turn {
-            phase: Phase::Halted,
-            act: Act::Withdraw,
-        },
-    }
-}
-
-fn when_current(seen: Seen) -> Turn
-    ensures { result ≡ when_current seen }
-{
-    let try_again = Turn {
-        phase: Phase::Current,
-        act: Act::Try,
-    };
-    match seen {
-        Seen::Asked => try_again,
-        Seen::Read(_) => try_again,
-        Seen::Next(_, _) => try_again,
-        Seen::Placed(_, _) => try_again,
-        Seen::Accepted(id) => when_accepted(id),
-        Seen::Refused => Turn {
-            phase: Phase::Idle,
-            act: Act::Refuse,
-        },
-        Seen::Silence => try_again,
-        Seen::Stop => Turn {
-            phase: Phase::Idle,
-            act: Act::Withdraw,
-        },
-        Seen::OtherHistory => Turn {
-            phase: Phase::Halted,
-            act: Act::Withdraw,
-        },
-    }
-}
-
-// The row that comes next is the controller's own, or another's.
-fn when_next(id: u64, there: u64) -> Turn
-    ensures { result ≡ when_next id there }
-{
-    if there == id {
-        Turn {
-            phase: Phase::Idle,
-            act: Act::Tell,
-        }
-    } else {
-        Turn {
-            phase: Phase::Waiting(id),
-            act: Act::Read,
-        }
-    }
-}
-
-// Where rows came in between, the answer is not the one that the copy gives: they are read first.
-fn when_placed(id: u64, known: u64, place: u64) -> Turn
-    ensures { result ≡ when_placed id known place }
-{
-    let rows_between = Turn {
-        phase: Phase::Waiting(id),
-        act: Act::Read,
-    };
-    if known < place {
-        return rows_between;
-    }
-    Turn {
-        phase: Phase::Idle,
-        act: Act::Tell,
-    }
-}
-
-fn when_waiting(id: u64, seen: Seen) -> Turn
-    ensures { result ≡ when_waiting id seen }
-{
-    let append_again = Turn {
-        phase: Phase::Waiting(id),
-        act: Act::Append,
-    };
-    let unknown = Turn {
-        phase: Phase::Idle,
-        act: Act::Unknown,
-    };
-    match seen {
-        Seen::Asked => append_again,
-        Seen::Read(_) => append_again,
-        Seen::Next(_, there) => when_next(id, there),
-        Seen::Placed(known, place) => when_placed(id, known, place),
-        Seen::Accepted(_) => append_again,
-        Seen::Refused => append_again,
-        Seen::Silence => append_again,
-        Seen::Stop => unknown,
-        Seen::OtherHistory => Turn {
-            phase: Phase::Halted,
-            act: Act::Unknown,
-        },
-    }
-}
-
-// It has seen another history, and does nothing until it starts again.
-fn when_halted(seen: Seen) -> Turn
-    ensures { result ≡ when_halted seen }
-{
-    let nothing = Turn {
-        phase: Phase::Halted,
-        act: Act::Nothing,
-    };
-    match seen {
-        Seen::Asked => Turn {
-            phase: Phase::Halted,
-            act: Act::Withdraw,
-        },
-        Seen::Read(_) => nothing,
-        Seen::Next(_, _) => nothing,
-        Seen::Placed(_, _) => nothing,
-        Seen::Accepted(_) => nothing,
-        Seen::Refused => nothing,
-        Seen::Silence => nothing,
-        Seen::Stop => nothing,
-        Seen::OtherHistory => nothing,
-    }
-}
-
+// What follows each phase on each thing seen.
 pub fn decide(phase: Phase, seen: Seen) -> Turn
     ensures { result ≡ turn phase seen }
 {
-    match phase {
-        Phase::Idle => when_idle(seen),
-        Phase::Asked => when_asked(seen),
-        Phase::Current => when_current(seen),
-        Phase::Waiting(id) => when_waiting(id, seen),
-        Phase::Halted => when_halted(seen),
+    match (phase, seen) {
+        (Phase::Idle, Seen::Asked) => to(Phase::Asked, Act::Try),
+        (Phase::Idle, Seen::OtherHistory) => to(Phase::Halted, Act::Nothing),
+        (Phase::Idle, _) => to(Phase::Idle, Act::Nothing),
+
+        // An id of 0 is none, and without an id nothing is sent.
+        (Phase::Asked | Phase::Current, Seen::Accepted(0)) => to(Phase::Idle, Act::Withdraw),
+        (Phase::Asked | Phase::Current, Seen::Accepted(id)) => to(Phase::Waiting(id), Act::Append),
+        (Phase::Asked | Phase::Current, Seen::Stop) => to(Phase::Idle, Act::Withdraw),
+        (Phase::Asked | Phase::Current, Seen::OtherHistory) => to(Phase::Halted, Act::Withdraw),
+
+        // A refusal counts only once the rows were read after the asking.
+        (Phase::Asked, Seen::Read(_)) => to(Phase::Current, Act::Try),
+        (Phase::Asked, _) => to(Phase::Asked, Act::Read),
+        (Phase::Current, Seen::Refused) => to(Phase::Idle, Act::Refuse),
+        (Phase::Current, _) => to(Phase::Current, Act::Try),
+
+        // The row that comes next is the controller's own, or another's.
+        (Phase::Waiting(id), Seen::Next(_, there)) if there == id => to(Phase::Idle, Act::Tell),
+        (Phase::Waiting(id), Seen::Next(_, _)) => to(Phase::Waiting(id), Act::Read),
+
+        // Where rows came in between, the answer is not the one that the copy gives: they are read first.
+        (Phase::Waiting(id), Seen::Placed(known, place)) if known < place => {
+            to(Phase::Waiting(id), Act::Read)
+        }
+        (Phase::Waiting(_), Seen::Placed(_, _)) => to(Phase::Idle, Act::Tell),
+        (Phase::Waiting(_), Seen::Stop) => to(Phase::Idle, Act::Unknown),
+        (Phase::Waiting(_), Seen::OtherHistory) => to(Phase::Halted, Act::Unknown),
+        (Phase::Waiting(id), _) => to(Phase::Waiting(id), Act::Append),
+
+        // It has seen another history, and does nothing until it starts again.
+        (Phase::Halted, Seen::Asked) => to(Phase::Halted, Act::Withdraw),
+        (Phase::Halted, _) => to(Phase::Halted, Act::Nothing),
     }
 }

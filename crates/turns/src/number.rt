@@ -1,8 +1,9 @@
-// The phases, the events and the acts as numbers, since no enum crosses the C boundary.
+// The phases and the events as numbers, since no enum crosses the C boundary. An act has its number by `u64::from`.
+// A phase is two numbers and what is seen is three, each total for `cindrolf_decide`: so these four are functions, and not From.
 ghost use Rattle.std.specs.Prelude.{◌≡◌};
-ghost use Rattle.sharing.specs.Numbers.{phase_number, phase_id, phase_of, seen_of, act_number};
+ghost use Rattle.sharing.specs.Numbers.{phase_number, phase_id, phase_of, seen_of};
 
-use sharing::controller::{Act, Phase, Seen};
+use sharing::controller::{Phase, Seen};
 
 pub fn phase_number(phase: Phase) -> u64
     ensures { result ≡ phase_number phase }
@@ -20,11 +21,8 @@ pub fn phase_id(phase: Phase) -> u64
     ensures { result ≡ phase_id phase }
 {
     match phase {
-        Phase::Idle => 0,
-        Phase::Asked => 0,
-        Phase::Current => 0,
         Phase::Waiting(id) => id,
-        Phase::Halted => 0,
+        _ => 0,
     }
 }
 
@@ -56,20 +54,5 @@ pub fn seen_of(number: u64, first: u64, second: u64) -> Seen
         7 => Seen::Stop,
         8 => Seen::OtherHistory,
         _ => Seen::Silence,
-    }
-}
-
-pub fn act_number(act: Act) -> u64
-    ensures { result ≡ act_number act }
-{
-    match act {
-        Act::Nothing => 0,
-        Act::Read => 1,
-        Act::Try => 2,
-        Act::Append => 3,
-        Act::Tell => 4,
-        Act::Refuse => 5,
-        Act::Withdraw => 6,
-        Act::Unknown => 7,
     }
 }

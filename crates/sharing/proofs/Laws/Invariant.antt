@@ -152,13 +152,13 @@ module _ {M : Machine} (base : M.Log) {s t : State M} (l : Later s t) where
   }
 
 pub apart-phases : {M : Machine} {P : Type 0} (a : Asking M) (l : Bool) (m : Append M) → asked a l ≡ waiting m → P
-apart-phases a l m e = let z : ◌≡◌ {A = ℕ} 0 1 = cc in absurd (omega arith)
+apart-phases a l m e = absurd cc
 
 pub idle-waits : {M : Machine} {P : Type 0} (m : Append M) → idle ≡ waiting m → P
-idle-waits m e = let z : ◌≡◌ {A = ℕ} 0 1 = cc in absurd (omega arith)
+idle-waits m e = absurd cc
 
 pub halted-waits : {M : Machine} {P : Type 0} (m : Append M) → halted ≡ waiting m → P
-halted-waits m e = let z : ◌≡◌ {A = ℕ} 0 1 = cc in absurd (omega arith)
+halted-waits m e = absurd cc
 
 pub same-append : {M : Machine} (m n : Append M) → waiting m ≡ waiting n → m ≡ n
 same-append m n e = cc

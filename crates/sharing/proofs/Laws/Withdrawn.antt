@@ -12,15 +12,6 @@ module _ {M : Machine} where
   same-asking : (a b : Asking M) (l e : Bool) → asked a l ≡ asked b e → a ≡ b
   same-asking a b l e q = cc
 
-  idle-asks : {P : Type 0} (a : Asking M) (l : Bool) → ◌≡◌ {A = Phase M} idle (asked a l) → P
-  idle-asks a l e = let z : ◌≡◌ {A = ℕ} 0 1 = cc in absurd (omega arith)
-
-  waiting-asks : {P : Type 0} (m : Append M) (a : Asking M) (l : Bool) → waiting m ≡ asked a l → P
-  waiting-asks m a l e = let z : ◌≡◌ {A = ℕ} 0 1 = cc in absurd (omega arith)
-
-  halted-asks : {P : Type 0} (a : Asking M) (l : Bool) → ◌≡◌ {A = Phase M} halted (asked a l) → P
-  halted-asks a l e = let z : ◌≡◌ {A = ℕ} 0 1 = cc in absurd (omega arith)
-
   -- Nobody is asked for it, and nobody has sent it; and every later asking has a later time.
   abbrev Quit : Asking M → Phase M → Type 0
   Quit a p = (b : Asking M) (l : Bool) → p ≡ asked b l → OneAsking b a → ⊥
@@ -46,17 +37,17 @@ module _ {M : Machine} where
     move-gone s d t (look n runs h w f) g = still a s t d _ g refl refl (omega arith) (g.quit d)
     move-gone s d t (read b l n p h e w) g = still a s t d _ g refl refl (omega arith)
         (λ y j q o. g.quit d b l p (subst (λ (z : Asking M). OneAsking z a) (sym (same-asking b y true j q)) o))
-    move-gone s d t (refuse b p e) g = still a s t d _ g refl refl (omega arith) (λ y j q _. idle-asks y j q)
+    move-gone s d t (refuse b p e) g = still a s t d _ g refl refl (omega arith) (λ y j q _. cc)
     move-gone s d t (send b l id p ok new) g = record {
       unsent = λ m i. ⊎_elim (λ (q : m ≡ _). λ o. g.quit d b l p (subst (λ (y : Append M). OneAsking y.asking a) q o)) (λ (h : In m s.sent). g.unsent m h) i;
-      quit = put_all (λ _ x. Quit a x.phase) s.controllers d _ (λ y j q _. waiting-asks _ y j q) (λ j _. g.quit j);
+      quit = put_all (λ _ x. Quit a x.phase) s.controllers d _ (λ y j q _. cc) (λ j _. g.quit j);
       past = omega (arith, g.past);
     }
     move-gone s d t (store m i q e) g = record { unsent = g.unsent; quit = g.quit; past = omega (arith, g.past) }
-    move-gone s d t (tell m r p i e) g = still a s t d _ g refl refl (omega arith) (λ y j q _. idle-asks y j q)
-    move-gone s d t (leave runs) g = still a s t d _ g refl refl (omega arith) (λ y j q _. idle-asks y j q)
-    move-gone s d t crash g = still a s t d _ g refl refl (omega arith) (λ y j q _. idle-asks y j q)
-    move-gone s d t halt g = still a s t d _ g refl refl (omega arith) (λ y j q _. halted-asks y j q)
+    move-gone s d t (tell m r p i e) g = still a s t d _ g refl refl (omega arith) (λ y j q _. cc)
+    move-gone s d t (leave runs) g = still a s t d _ g refl refl (omega arith) (λ y j q _. cc)
+    move-gone s d t crash g = still a s t d _ g refl refl (omega arith) (λ y j q _. cc)
+    move-gone s d t halt g = still a s t d _ g refl refl (omega arith) (λ y j q _. cc)
 
     run-gone : (s t : State M) → Run base s t → Gone a s → Gone a t
     run-gone s t here g = g
@@ -86,27 +77,21 @@ module _ {M : Machine} where
       Rests t = ((t.controllers c).phase ≡ idle) ⊎ ((t.controllers c).phase ≡ halted)
 
       no-rest : {P : Type 0} (t : State M) (b : Asking M) (j : Bool) → (t.controllers c).phase ≡ asked b j → Rests t → P
-      no-rest t b j q = ⊎_elim (λ (e : (t.controllers c).phase ≡ idle). idle-asks b j (sym e ∙ q)) (λ (e : (t.controllers c).phase ≡ halted). halted-asks b j (sym e ∙ q))
+      no-rest t b j q = ⊎_elim (λ (e : (t.controllers c).phase ≡ idle). absurd cc) (λ (e : (t.controllers c).phase ≡ halted). absurd cc)
 
       pub gone-now : (t : State M) → Move base s c t → Rests t → Gone a t
-      gone-now t (ask x q) o = idle-asks a l (sym q ∙ p)
+      gone-now t (ask x q) o = absurd (cc (sym q ∙ p))
       gone-now t (look n runs h w f) o = no-rest t a l (ap (λ (k : Controller M). k.phase) (put_same s.controllers c _) ∙ p) o
       gone-now t (read b j n q h e w) o = no-rest t b true (ap (λ (k : Controller M). k.phase) (put_same s.controllers c _)) o
-      gone-now t (refuse b q e) o = gone t _ refl refl (omega arith) (λ y j e _. idle-asks y j e)
+      gone-now t (refuse b q e) o = gone t _ refl refl (omega arith) (λ y j e _. cc)
       gone-now t (send b j id q ok new) o =
           let now : (t.controllers c).phase ≡ waiting _ = ap (λ (k : Controller M). k.phase) (put_same s.controllers c _) in
-          ⊎_elim (λ (e : (t.controllers c).phase ≡ idle). idle-awaits (sym e ∙ now)) (λ (e : (t.controllers c).phase ≡ halted). halted-awaits (sym e ∙ now)) o
-        where
-          idle-awaits : {P : Type 0} {m : Append M} → ◌≡◌ {A = Phase M} idle (waiting m) → P
-          idle-awaits e = let z : ◌≡◌ {A = ℕ} 0 1 = cc in absurd (omega arith)
-
-          halted-awaits : {P : Type 0} {m : Append M} → ◌≡◌ {A = Phase M} halted (waiting m) → P
-          halted-awaits e = let z : ◌≡◌ {A = ℕ} 0 1 = cc in absurd (omega arith)
+          ⊎_elim (λ (e : (t.controllers c).phase ≡ idle). absurd cc) (λ (e : (t.controllers c).phase ≡ halted). absurd cc) o
       gone-now t (store m i q e) o = no-rest t a l p o
-      gone-now t (tell m r q i e) o = waiting-asks m a l (sym q ∙ p)
-      gone-now t (leave runs) o = gone t _ refl refl (omega arith) (λ y j e _. idle-asks y j e)
-      gone-now t crash o = gone t _ refl refl (omega arith) (λ y j e _. idle-asks y j e)
-      gone-now t halt o = gone t _ refl refl (omega arith) (λ y j e _. halted-asks y j e)
+      gone-now t (tell m r q i e) o = absurd (cc (sym q ∙ p))
+      gone-now t (leave runs) o = gone t _ refl refl (omega arith) (λ y j e _. cc)
+      gone-now t crash o = gone t _ refl refl (omega arith) (λ y j e _. cc)
+      gone-now t halt o = gone t _ refl refl (omega arith) (λ y j e _. cc)
 
 pub never-sent : {M : Machine} (base : M.Log) (s : State M) → Invariant base s → (c : ℕ) (a : Asking M) (l : Bool) → (s.controllers c).phase ≡ asked a l
     → (t : State M) → Move base s c t → ((t.controllers c).phase ≡ idle) ⊎ ((t.controllers c).phase ≡ halted) → (u : State M) → Run base t u
