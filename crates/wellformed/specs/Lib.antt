@@ -10,4 +10,5 @@ pub mod LedgerLanes
 pub mod Checked
 pub mod VerdictLaws
 pub mod LogVerdictLaws
+pub mod Third
 pub mod ThirdBufferLaws
