@@ -17,10 +17,8 @@ fn word_for(client: u64, count: u64) -> u64
 pub fn grant_all(rights: &mut [u64], count: u64)
     ensures { rights.new ≡ granted count (length rights.old) }
 {
-    let mut i = 0;
-    while i < rights.len() {
+    for i in 0..rights.len() {
         rights[i] = word_for(i as u64, count);
-        i += 1;
     }
 }
 

@@ -14,10 +14,8 @@ pub fn rights_fit(rights: &[u64], count: u64) -> bool
     ensures { result ≡ test (rights_formed count rights.now) }
 {
     let mut ok = true;
-    let mut i = 0;
-    while i < rights.len() {
+    for i in 0..rights.len() {
         ok = ok & word_fits(count, i as u64, rights[i]);
-        i += 1;
     }
     ok
 }

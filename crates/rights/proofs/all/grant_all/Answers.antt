@@ -8,8 +8,8 @@ loop-i-preserved c =
     let at = c.loop-i in
     let w = c.word_for.result in (
       length-set at.rights at.i w ∙ at.invariant.0,
-      made_more _ _ at.i at.rights at.invariant.0 at.invariant.1 w (rw at.invariant.0 at c.loop-i-test.true) c.word_for.ensures,
+      made_more _ _ at.i at.rights at.invariant.0 at.invariant.1 w c.loop-i-test.true c.word_for.ensures,
     )
 
 pub returns : goal.returns
-returns c = let at = c.loop-i in made_all _ _ at.i at.rights at.invariant.0 at.invariant.1 (rw at.invariant.0 at c.loop-i-test.false)
+returns c = let at = c.loop-i in made_all _ _ at.i at.rights at.invariant.0 at.invariant.1 c.loop-i-test.false

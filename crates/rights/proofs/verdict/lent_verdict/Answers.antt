@@ -1,23 +1,12 @@
 -- `lent_verdict` meets its contract.
-use Rattle.rights.specs.LentLaws.{wrong-length, no-log, wrong-rights, all_pass}
+use Rattle.std.proofs.Common.{rules, of_calls}
+use Rattle.rights.specs.LentLaws.{wrong, faulty, lengths-decide, words-decide}
 use Rattle.rights.proofs.verdict.lent_verdict.Goals as goal
 
-pub returns-then-rights-ne-LENGTH : goal.returns-then-rights-ne-LENGTH
-returns-then-rights-ne-LENGTH c = let args = c.args in wrong-length args.state.now args.entries.now args.rights.now c.if-rights-ne-LENGTH.true
-
-pub returns-in-Refused : goal.returns-in-Refused
-returns-in-Refused c =
-    let args = c.args in
-    no-log args.state.now args.entries.now args.rights.now c.if-rights-ne-LENGTH.false c.check_log-c.ensures c.in-Refused.is
-
-pub returns-then-rights_fit : goal.returns-then-rights_fit
-returns-then-rights_fit c =
-    let args = c.args in
-    all_pass args.state.now args.entries.now args.rights.now c.if-rights-ne-LENGTH.false c.check_log-c.ensures
-    c.in-Passed.is c.rights_fit.ensures c.if-rights_fit.true
-
-pub returns-else-rights_fit : goal.returns-else-rights_fit
-returns-else-rights_fit c =
-    let args = c.args in
-    wrong-rights args.state.now args.entries.now args.rights.now c.if-rights-ne-LENGTH.false c.check_log-c.ensures
-    c.in-Passed.is c.rights_fit.ensures c.if-rights_fit.false
+pub returns : goal.returns
+returns c =
+    let s = c.args.state.now in
+    let e = c.args.entries.now in
+    let rights = c.args.rights.now in
+    c.verdict.ensures (wrong s e rights) (faulty s e rights) (lengths-decide s e rights (search rules))
+    (λ h ok at called. words-decide s e rights at (search (rules, of_calls)))
