@@ -6,37 +6,29 @@ pub mod table;
 ghost use Rattle.std.specs.Prelude.{◌≡◌};
 ghost use Rattle.chain.specs.Adviser.{advice, adviser};
 ghost use Rattle.chain.specs.Operations.{buffers, held};
-ghost use Rattle.lookup.specs.Opened.{Opened};
 
-use chain::advice::Advice;
-use chain::answer::{Refusal, Verdict};
+use chain::answer::Refusal;
+use chain::kind::Kind;
+use lookup::opened::OpenedLog;
 
 // What a client that the log knows is told.
-fn advise_known(state: &[u64], entries: &[u64], client: u64) -> Advice
-    requires { Opened client (buffers state.now entries.now) }
-    ensures { result ≡ advice client (held (buffers state.now entries.now)) }
+fn advise_known(log: &OpenedLog) -> Option<Kind>
+    ensures { result ≡ advice log.now.client (held (buffers log.now.state.now log.now.entries.now)) }
 {
-    let h = records::head::load_head(state);
-    let k = records::client::load_client(state, client);
-    let ledger = k.ledger;
-    let stored = lookup::find::stored_ledger(state, ledger);
-    let named = h.named_leader == client;
+    let h = records::head::load_head(log.state);
+    let (k, stored) = log.remembered();
+    let named = h.named_leader == log.client;
     table::client_advice(named, k, stored.fenced)
 }
 
-pub fn advise(state: &[u64], entries: &[u64], client: u64) -> Advice
+// The kind of the step to take next, a write's value being the caller's; or that there is none to take.
+pub fn advise(state: &[u64], entries: &[u64], client: u64) -> Result<Option<Kind>, Refusal>
     ensures { result ≡ adviser client (buffers state.now entries.now) }
 {
-    let v = wellformed::log_verdict(state, entries);
-    match v {
-        Verdict::Refuse(r) => Advice::Refused(r),
-        Verdict::Pass => {
-            let unknown = lookup::client::is_unknown(state, client);
-            if unknown {
-                Advice::Refused(Refusal::UnknownClient)
-            } else {
-                advise_known(state, entries, client)
-            }
-        }
+    wellformed::log_verdict(state, entries)?;
+    if lookup::client::is_unknown(state, client) {
+        return Err(Refusal::UnknownClient);
     }
+    let log = OpenedLog::new(state, entries, client);
+    Ok(advise_known(&log))
 }

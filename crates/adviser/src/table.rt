@@ -2,40 +2,34 @@
 ghost use Rattle.std.specs.Prelude.{◌≡◌};
 ghost use Rattle.chain.specs.Adviser.{stage_advice, client_advice};
 
-use chain::advice::Advice;
+use chain::kind::Kind;
 use records::client::Client;
 use records::stage::Stage;
 
-fn stage_advice(stage: Stage, fenced: bool) -> Advice
+fn stage_advice(stage: Stage, fenced: bool) -> Kind
     ensures { result ≡ stage_advice stage fenced }
 {
     match stage {
-        Stage::Waiting => Advice::Become,
-        Stage::Fetching => Advice::Fetch,
-        Stage::ClosingLast => Advice::CloseLast,
-        Stage::Creating => Advice::Create,
-        Stage::Appending => Advice::Append,
-        Stage::Writing => {
-            if fenced {
-                Advice::CloseOwn
-            } else {
-                Advice::Write
-            }
-        }
-        Stage::Finishing => Advice::Finish,
+        Stage::Waiting => Kind::Become,
+        Stage::Fetching => Kind::Fetch,
+        Stage::ClosingLast => Kind::CloseLast,
+        Stage::Creating => Kind::Create,
+        Stage::Appending => Kind::Append,
+        Stage::Writing => { if fenced { Kind::CloseOwn } else { Kind::Write } }
+        Stage::Finishing => Kind::Finish,
     }
 }
 
-pub fn client_advice(named: bool, client: Client, fenced: bool) -> Advice
+pub fn client_advice(named: bool, client: Client, fenced: bool) -> Option<Kind>
     ensures { result ≡ client_advice named client fenced }
 {
     if named {
         let stage = client.stage;
-        return stage_advice(stage, fenced);
+        return Some(stage_advice(stage, fenced));
     }
     if client.leads {
-        Advice::Abdicate
+        Some(Kind::Abdicate)
     } else {
-        Advice::NoStep
+        None
     }
 }

@@ -1,26 +1,29 @@
+use Rattle.std.proofs.lemmas.Result.{err_from_is_err_and}
 use Rattle.chain.specs.Operations.{buffers}
 use Rattle.adviser.specs.AdviserLaws.{no-log, unknown, opened, known}
 use Rattle.adviser.proofs.advise.Goals as goal
 
-pub advise_known-requires : goal.advise_known-requires
-advise_known-requires c =
+pub returns-in_err-log_verdict : goal.returns-in_err-log_verdict
+returns-in_err-log_verdict c =
     let given = c.args in
-    opened given.client (buffers given.state.now given.entries.now) c.log_verdict-v.ensures c.in-Pass.is
-    c.is_unknown-unknown.ensures c.if-unknown.false
+    let p = err_from_is_err_and c.from_residual.result c.from_residual.ensures.1 in
+    rw (p.1, p.2) (no-log given.client (buffers given.state.now given.entries.now) c.log_verdict.ensures c.in_err-log_verdict.was)
 
-pub returns-in-Refuse : goal.returns-in-Refuse
-returns-in-Refuse c =
+pub returns-then-is_unknown : goal.returns-then-is_unknown
+returns-then-is_unknown c =
     let given = c.args in
-    no-log given.client (buffers given.state.now given.entries.now) c.log_verdict-v.ensures c.in-Refuse.is
+    unknown given.client (buffers given.state.now given.entries.now) c.log_verdict.ensures c.in_ok-log_verdict.was
+    c.is_unknown.ensures c.if-is_unknown.true
 
-pub returns-then-unknown : goal.returns-then-unknown
-returns-then-unknown c =
+pub new-log-requires : goal.new-log-requires
+new-log-requires c =
     let given = c.args in
-    unknown given.client (buffers given.state.now given.entries.now) c.log_verdict-v.ensures c.in-Pass.is
-    c.is_unknown-unknown.ensures c.if-unknown.true
+    opened given.client (buffers given.state.now given.entries.now) c.log_verdict.ensures c.in_ok-log_verdict.was
+    c.is_unknown.ensures c.if-is_unknown.false
 
-pub returns-else-unknown : goal.returns-else-unknown
-returns-else-unknown c =
+pub returns : goal.returns
+returns c =
     let given = c.args in
-    known given.client (buffers given.state.now given.entries.now) c.log_verdict-v.ensures c.in-Pass.is
-    c.is_unknown-unknown.ensures c.if-unknown.false c.advise_known.ensures
+    let log = c.new-log.ensures in
+    known given.client (buffers given.state.now given.entries.now) c.log_verdict.ensures c.in_ok-log_verdict.was
+    c.is_unknown.ensures c.if-is_unknown.false (rw (log.state, log.client) at c.advise_known.ensures)
