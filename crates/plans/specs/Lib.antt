@@ -1,5 +1,5 @@
+pub mod Planned
 pub mod Numbers
 pub mod Words
 pub mod Runs
 pub mod Stretches
-pub mod CopyLaws

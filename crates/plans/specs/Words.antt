@@ -2,7 +2,7 @@
 use Rattle.std.specs.Prelude.{ℕ, ◌≡◌, List}
 use Rattle.std.proofs.Common.{sym}
 use Rattle.chain.specs.Plans.{word_number, word_client, word_value, word_step}
-use Rattle.plans.specs.declared.number.Planned.{Planned}
+use Rattle.plans.specs.Planned.{Planned}
 use Rattle.plans.specs.Numbers.{planned_of, Numbered}
 
 abbrev pub Tells : ℕ → Planned → Type 0

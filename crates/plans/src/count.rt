@@ -1,59 +1,33 @@
-// What a run counts of a step's answer: an entry, or the ledger number of a done create.
+// What a run counts of a step's answer: an entry, a ledger number or a refusal.
 ghost use Rattle.std.specs.Prelude.{◌≡◌};
-ghost use Rattle.chain.specs.Plans.{is_entry, is_done, is_ledger};
-ghost use Rattle.dispatch.specs.Dispatch.{kind_of};
+ghost use Rattle.std.specs.Int.{from_bool};
+ghost use Rattle.chain.specs.Answers.{is_refused};
+ghost use Rattle.chain.specs.Plans.{is_entry};
 ghost use Rattle.plans.specs.Numbers.{CountsLedgers};
 
-use crate::number::Planned;
 use chain::answer::Answer;
+use chain::kind::{Kind, UnknownStep};
 use dispatch::Step;
 
-pub fn is_entry(a: Answer) -> u64
-    ensures { result ≡ is_entry a }
+pub fn is_entry(a: Answer) -> bool
+    ensures { from_bool result ≡ is_entry a }
 {
-    match a {
-        Answer::Written(_) => 1,
-        Answer::Done => 0,
-        Answer::WasClosed => 0,
-        Answer::Behind => 0,
-        Answer::Refused(_) => 0,
-    }
+    matches!(a, Answer::Written(_))
 }
 
-fn is_done(a: Answer) -> u64
-    ensures { result ≡ is_done a }
+// A done create has a ledger number.
+pub fn is_ledger(planned: Result<Step, UnknownStep>, a: Answer) -> bool
+    ensures { CountsLedgers planned a (from_bool result) }
 {
-    match a {
-        Answer::Done => 1,
-        Answer::WasClosed => 0,
-        Answer::Behind => 0,
-        Answer::Written(_) => 0,
-        Answer::Refused(_) => 0,
-    }
+    let Ok(step) = planned else {
+        return false;
+    };
+    step.kind == Kind::Create && matches!(a, Answer::Done)
 }
 
-fn step_ledgers(step: Step, a: Answer) -> u64
-    ensures { result ≡ is_ledger (kind_of step) a }
+// Was closed and `behind` are none.
+pub fn is_refusal(a: Answer) -> bool
+    ensures { from_bool result ≡ is_refused a }
 {
-    match step {
-        Step::Create(_) => is_done(a),
-        Step::Name(_) => 0,
-        Step::Become(_) => 0,
-        Step::Abdicate(_) => 0,
-        Step::Fetch(_) => 0,
-        Step::CloseLast(_) => 0,
-        Step::Finish(_) => 0,
-        Step::Append(_) => 0,
-        Step::Write(_, _) => 0,
-        Step::CloseOwn(_) => 0,
-    }
-}
-
-pub fn ledgers(planned: Planned, a: Answer) -> u64
-    ensures { CountsLedgers planned a result }
-{
-    match planned {
-        Planned::Take(step) => step_ledgers(step, a),
-        Planned::UnknownStep => 0,
-    }
+    matches!(a, Answer::Refused(_))
 }

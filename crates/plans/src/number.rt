@@ -4,42 +4,37 @@ ghost use Rattle.chain.specs.Plans.{numbered_step};
 ghost use Rattle.plans.specs.Numbers.{planned_of, Numbered, TakeResult};
 
 use chain::answer::{Answer, Refusal};
+use chain::kind::{Kind, UnknownStep};
 use dispatch::Step;
 
-// A step to take, or a number that is none.
-#[derive(Clone, Copy, Drop)]
-pub enum Planned {
-    Take(Step),
-    UnknownStep,
-}
-
 // The value counts only for a write.
-pub fn numbered(number: u64, client: u64, value: u64) -> Planned
+pub fn numbered(number: u64, client: u64, value: u64) -> Result<Step, UnknownStep>
     ensures { Numbered number client value result }
 {
-    match number {
-        0 => Planned::Take(Step::Name(client)),
-        1 => Planned::Take(Step::Become(client)),
-        2 => Planned::Take(Step::Abdicate(client)),
-        3 => Planned::Take(Step::Fetch(client)),
-        4 => Planned::Take(Step::CloseLast(client)),
-        5 => Planned::Take(Step::Finish(client)),
-        6 => Planned::Take(Step::Create(client)),
-        7 => Planned::Take(Step::Append(client)),
-        8 => Planned::Take(Step::Write(client, value)),
-        9 => Planned::Take(Step::CloseOwn(client)),
-        _ => Planned::UnknownStep,
-    }
+    let kind = Kind::try_from(number)?;
+    Ok(Step {
+        client,
+        kind,
+        value,
+    })
 }
 
+// The answer to a number that no step has.
+pub(crate) const NO_STEP: Answer = Answer::Refused(Refusal::UnknownStep);
+
 // 25 comes before 1.
-pub fn take(state: &mut [u64], entries: &mut [u64], rights: &[u64], planned: Planned) -> Answer
+pub fn take(
+    state: &mut [u64],
+    entries: &mut [u64],
+    rights: &[u64],
+    planned: Result<Step, UnknownStep>,
+) -> Answer
     ensures { TakeResult (planned_of rights.now planned)
         (buffers state.old entries.old) result state.new entries.new }
 {
     match planned {
-        Planned::Take(step) => dispatch::check_and_take(state, entries, rights, step),
-        Planned::UnknownStep => Answer::Refused(Refusal::UnknownStep),
+        Ok(step) => dispatch::check_and_take(state, entries, rights, step),
+        Err(_) => NO_STEP,
     }
 }
 

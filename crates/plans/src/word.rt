@@ -4,15 +4,16 @@ ghost use Rattle.chain.specs.Plans.{word_step};
 ghost use Rattle.plans.specs.Numbers.{TakeResult};
 ghost use Rattle.plans.specs.Words.{Tells};
 
-use crate::number::Planned;
 use chain::answer::Answer;
+use chain::kind::UnknownStep;
+use dispatch::Step;
 
 // The unit of each field: its lowest bit.
 pub const NUMBER_UNIT: u64 = 1 << 60;
 
 pub const CLIENT_UNIT: u64 = 1 << 52;
 
-pub fn planned_step(word: u64) -> Planned
+pub fn planned_step(word: u64) -> Result<Step, UnknownStep>
     ensures { Tells word result }
 {
     let number = word / NUMBER_UNIT % 16;

@@ -1,9 +1,0 @@
-use Rattle.std.proofs.Common.{◌-◌, ◌≡◌}
-use lib.ListN.{length, take}
-use Rattle.plans.proofs.copy.copy_words.Given as goal
-
-abbrev pub invariant-loop-i : goal.invariant-loop-i
-invariant-loop-i l = (length l.to ≡ length l.from) × (take l.i l.to ≡ take l.i l.from)
-
-abbrev pub decreases-loop-i : goal.decreases-loop-i
-decreases-loop-i l = length l.from - l.i
