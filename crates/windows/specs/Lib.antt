@@ -1,4 +1,3 @@
 pub mod Left
 pub mod WalkLaws
-pub mod WalkingLaws
 pub mod FirstWindowLaws

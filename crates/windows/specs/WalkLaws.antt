@@ -1,12 +1,14 @@
 -- The walk over the starts of windows: what it keeps of the words left at the start and of those left behind the window's words so far.
 use Prim.Native.Nat.{ℕ, zero, suc, ◌+◌, ◌-◌, ◌*◌, ◌%◌, ◌^◌, ◌<◌, ◌≤◌}
 use Rattle.std.proofs.Common.{arith, ◌∙◌, take-add, drop-drop, length-take-le}
-use Rattle.std.specs.Prelude.{◌≡◌, refl, length}
+use Rattle.std.specs.Prelude.{◌≡◌, refl, length, Ok, Some, None}
 use Rattle.std.proofs.Math.Path.{sym, ap}
 use mathlib.Core.List.{List, [], ◌∷◌, ◌++◌, map}
 use Rattle.std.proofs.Math.ListN.{take, drop, length-drop}
 use Rattle.std.proofs.lemmas.List.{length-map}
-use Rattle.chain.specs.declared.answer.WindowAnswer.TheVariants.{None, Start}
+use Rattle.records.specs.declared.head.Head.{Head}
+use Rattle.readers.specs.Readable.{Readable}
+use Rattle.readers.specs.Along.{chain_words, chain-parts, chain-few}
 use Rattle.chain.specs.Values.{sum, value_of, sum_of}
 use Rattle.chain.specs.Windows.{reading_place, window_from}
 use Rattle.chain.proofs.Laws.Values.{sum_bound, sum-append}
@@ -50,11 +52,18 @@ module _ {n limit : ℕ} {whole first past : List ℕ} {start held kept : ℕ} (
         at-word : drop held first ≡ word ∷ rest
         at-word = w.behind ∙ q
 
-    pub runs-out : past ≡ [] → None ≡ window_from n limit 0 (map value_of whole)
+    pub runs-out : past ≡ [] → (Ok None) ≡ window_from n limit 0 (map value_of whole)
     runs-out q = sym (w.same ∙ from-short n limit start (map value_of first) short)
       where
         short : length (map value_of first) < n
         short = omega (arith, length-map first value_of, length-drop held first, ap (length {A = ℕ}) (w.behind ∙ q), w.some)
+
+  -- Where no word is left at the start no window is left.
+  pub no-start : 1 ≤ n → first ≡ [] → (Ok None) ≡ window_from n limit 0 (map value_of whole)
+  no-start one q = sym (w.same ∙ from-short n limit start (map value_of first) short)
+    where
+      short : length (map value_of first) < n
+      short = omega (arith, one, length-map first value_of, ap (length {A = ℕ}) q)
 
   -- A whole window is over the limit, or the start moves on: its first word is taken off.
   module _ (full : n ≤ held) (one : 1 ≤ n) where
@@ -69,7 +78,7 @@ module _ {n limit : ℕ} {whole first past : List ℕ} {start held kept : ℕ} (
       whole_sum = let k : held ≡ n = omega (arith, w.few) in
           w.sums ∙ ap sum (sym (take-values held first)) ∙ rw (k, q)
 
-      pub goes_over : limit < kept → Start (reading_place start) ≡ window_from n limit 0 (map value_of whole)
+      pub goes_over : limit < kept → (Ok (Some (reading_place start))) ≡ window_from n limit 0 (map value_of whole)
       goes_over l = sym (w.same ∙ ap (λ (l : List ℕ). window_from n limit start (map value_of l)) q
           ∙ from-over n limit start (value_of word) (map value_of rest) fits (omega (arith, whole_sum)))
 
@@ -92,3 +101,18 @@ module _ {n limit : ℕ} {whole first past : List ℕ} {start held kept : ℕ} (
       word_held =
           let h : held ≡ suc (held - 1) = omega (arith, full) in
           omega (arith, rw (h, q) at w.sums)
+
+    -- The words that are left at the start are some, since the window has some.
+    pub over : limit < kept → (Ok (Some (reading_place start))) ≡ window_from n limit 0 (map value_of whole)
+    over l = at first refl
+      where
+        at : (ws : List ℕ) → first ≡ ws → (Ok (Some (reading_place start))) ≡ window_from n limit 0 (map value_of whole)
+        at [] q = absurd (some_left q)
+        at (x ∷ xs) q = goes_over x xs q l
+
+pub one-less : (word : ℕ) (rest first : List ℕ) → first ≡ word ∷ rest → length rest < length first
+one-less word rest first q = omega (arith, ap (length {A = ℕ}) q)
+
+-- Places in the reading stay far below 2^64.
+pub reading-few : (s e : List ℕ) (h : Head) → Readable s e h → length (chain_words s e h) ≤ 255 * 2 ^ 13
+reading-few s e h r = omega (arith, ap (length {A = ℕ}) (chain-parts s e h), chain-few s e h r)

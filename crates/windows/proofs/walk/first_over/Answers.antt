@@ -1,54 +1,38 @@
-use Rattle.std.proofs.Common.{arith, refl, ap, ◌∙◌}
-use mathlib.Core.List.{List, map}
-use Rattle.chain.specs.Values.{value_of}
-use Rattle.chain.specs.Windows.{window_from}
-use Rattle.windows.specs.Left.{left-all}
-use Rattle.windows.specs.WalkingLaws.{begins, walk-takes, walk_ends, walk-moves, walk-held, walk-shorter, walk-over, walk_kept, reading-few}
+use Rattle.std.proofs.Common.{arith, refl, inl, sym}
+use Rattle.readers.specs.Readable.{log-known}
+use Rattle.readers.specs.Along.{chain_words}
+use Rattle.windows.specs.WalkLaws.{begin, kept_small, takes, runs-out, no-start, over, moves, word_held, reading-few}
 use Rattle.windows.proofs.walk.first_over.Goals as goal
 
 pub starts-init : goal.starts-init
-starts-init c = (refl, rw (c.begin-past.ensures, c.begin-first.ensures) (begins _ _ _ _ _ _))
+starts-init c =
+    let few = reading-few c.args.log.state.now c.args.log.entries.now c.args.log.head (log-known c.args.log) in
+    rw (c.into_iter-start-iterator.ensures.into_iter_gives, c.enumerate-start-items.ensures.source, c.enumerate-start-items.ensures.count, c.of.ensures, c.of-past.ensures) (
+      (tt, tt, inl (omega (arith, few))),
+      (tt, (refl, begin c.args.length c.args.limit (chain_words c.args.log.state.now c.args.log.entries.now c.args.log.head))),
+    )
 
 pub overflow_add-sum : goal.overflow_add-sum
-overflow_add-sum c =
-    omega (arith, walk_kept _ _ _ _ _ _ c.loop-held.invariant c.requires.readable.entries.within, c.loop-held-test.true, c.requires.few)
+overflow_add-sum c = omega (arith, kept_small c.loop-held.invariant, c.loop-held-test.true, c.requires.few)
 
 pub loop-held-preserved : goal.loop-held-preserved
-loop-held-preserved c =
-    walk-takes _ _ _ _ _ _ c.loop-held.invariant c.requires.readable.entries.within c.loop-held-test.true _ c.settled-past.ensures
-    c.if-at-past.false
+loop-held-preserved c = takes c.loop-held.invariant c.loop-held-test.true _ _ c.in-Some-next.ensures.steps
 
 pub overflow_sub-sum : goal.overflow_sub-sum
-overflow_sub-sum c =
-    walk-held _ _ _ _ _ _ c.loop-held.invariant c.requires.readable.entries.within c.loop-held-test.false c.requires.some _
-    c.settled-first.ensures
-
-pub overflow_add-start : goal.overflow_add-start
-overflow_add-start c =
-    omega (arith, c.loop-held.invariant.window.place, reading-few _ _ _ c.requires.readable)
-
-pub starts-smaller : goal.starts-smaller
-starts-smaller c =
-    walk-shorter _ _ _ _ _ _ c.loop-held.invariant c.requires.readable.entries.within c.loop-held-test.false c.requires.some _
-    c.settled-first.ensures
+overflow_sub-sum c = word_held c.loop-held.invariant c.loop-held-test.false c.requires.some _ _ refl
 
 pub starts-preserved : goal.starts-preserved
-starts-preserved c = (
-  c.starts.invariant.0,
-  walk-moves _ _ _ _ _ _ c.loop-held.invariant c.requires.readable.entries.within c.loop-held-test.false c.requires.some _
-      c.settled-first.ensures (omega (arith, c.if-limit-sum.false)),
-)
+starts-preserved c =
+    let w = moves c.loop-held.invariant c.loop-held-test.false c.requires.some _ _ refl c.if-limit-sum.false in
+    let few = reading-few c.args.log.state.now c.args.log.entries.now c.args.log.head (log-known c.args.log) in
+    rw (c.in-Some.ensures.steps.2, sym c.in-Some.ensures.steps.1)
+    ((tt, tt, inl (omega (arith, few, w.place))), (tt, (c.starts.invariant.1.1.0, w)))
 
-pub returns-then-at-past : goal.returns-then-at-past
-returns-then-at-past c =
-    let args = c.args in
-    c.starts.invariant.0
-    ∙ walk_ends _ _ _ _ _ _ c.loop-held.invariant c.requires.readable.entries.within c.loop-held-test.true _ c.settled-past.ensures
-    c.if-at-past.true
-    ∙ ap (λ (l : List _). window_from args.length args.limit 0 (map value_of l)) (left-all args.state.now args.entries.now args.head)
+pub returns-in-None : goal.returns-in-None
+returns-in-None c = rw c.starts.invariant.1.1.0 (no-start c.starts.invariant.1.1.1 c.requires.some c.in-None.ensures.steps.0.0)
+
+pub returns-in_default : goal.returns-in_default
+returns-in_default c = rw c.starts.invariant.1.1.0 (runs-out c.loop-held.invariant c.loop-held-test.true c.in_default.ensures.steps.0)
 
 pub returns-then-limit-sum : goal.returns-then-limit-sum
-returns-then-limit-sum c =
-    let args = c.args in
-    walk-over _ _ _ _ _ _ c.loop-held.invariant c.requires.readable.entries.within c.loop-held-test.false c.requires.some (omega arith)
-    ∙ ap (λ (l : List _). window_from args.length args.limit 0 (map value_of l)) (left-all args.state.now args.entries.now args.head)
+returns-then-limit-sum c = over c.loop-held.invariant c.loop-held-test.false c.requires.some c.if-limit-sum.true
