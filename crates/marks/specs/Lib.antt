@@ -1,4 +1,5 @@
 pub mod Pairs
+pub mod Placed
 pub mod Gap
 pub mod FormLaws
 pub mod PlacedLaws

@@ -1,9 +1,7 @@
 // Whether marks are well formed: kept marks first, each with a count up to the log's and a different name, and then zero pairs.
-ghost use Rattle.std.specs.Prelude.{◌≡◌, ◌≤◌, length};
-ghost use Rattle.chain.specs.Marks.{marks_length, pairs_of, all_zero, fits, well_marked};
-ghost use Rattle.marks.specs.Pairs.{pair_count, rest};
-
-use crate::pairs::PAIRS;
+ghost use Rattle.std.specs.Prelude.{◌≡◌, map};
+ghost use Rattle.chain.specs.Marks.{pairs_of, all_zero, fits, well_marked};
+ghost use Rattle.marks.specs.Pairs.{pair_in};
 
 // The unit of a mark's count: its lowest bit.
 pub const COUNT_UNIT: u64 = 1 << 51;
@@ -14,38 +12,29 @@ fn count_fits(count: u64, word: u64) -> bool
     (word % COUNT_UNIT == 0) & (word / COUNT_UNIT <= count)
 }
 
-fn rest_is_zero(marks: &[u64], from: usize) -> bool
-    requires long { length marks.now ≡ marks_length }
-    requires within { from ≤ pair_count }
-    ensures { result ≡ all_zero (rest marks.now from) }
+fn all_zero(pairs: &[[u64; 2]]) -> bool
+    ensures { result ≡ all_zero (map pair_in pairs.now) }
 {
-    let mut ok = true;
-    let mut p = from;
-    while p < PAIRS {
-        ok = ok & ((marks[2 * p] == 0) & (marks[2 * p + 1] == 0));
-        p += 1;
-    }
-    ok
+    pairs.iter().all(|pair| (pair[0] == 0) & (pair[1] == 0))
 }
 
 // Each name is compared with those after it, so 32 names take 496 comparisons.
 pub fn marks_fit(marks: &[u64], count: u64) -> bool
-    requires { length marks.now ≡ marks_length }
     ensures { result ≡ well_marked count (pairs_of marks.now) }
 {
-    let mut p = 0;
-    while p < PAIRS {
-        let name = marks[2 * p];
+    let mut rest = crate::pairs::pairs_of(marks);
+    while let Some((pair, after)) = rest.split_first() {
+        let [name, word] = *pair;
         if name == 0 {
-            return rest_is_zero(marks, p);
+            return all_zero(rest);
         }
-        if !count_fits(count, marks[2 * p + 1]) {
+        if !count_fits(count, word) {
             return false;
         }
-        if crate::pairs::has_name(marks, p + 1, name) {
+        if crate::pairs::has_name(after, name) {
             return false;
         }
-        p += 1;
+        rest = after;
     }
     true
 }

@@ -1,42 +1,37 @@
-// The pairs of the marks buffer: whether a name is among them, and where.
-ghost use Rattle.std.specs.Prelude.{◌≡◌, true, ◌≤◌, ◌<◌, length};
-ghost use Rattle.chain.specs.Marks.{marks_length, pairs_of, among};
-ghost use Rattle.marks.specs.Pairs.{pair_count, rest, place_of};
+// The pairs of the marks buffer, of a name and the word with its count: whether a name is among them, and where.
+ghost use Rattle.std.specs.Prelude.{◌≡◌, map};
+ghost use Rattle.chain.specs.Marks.{pairs_of, among};
+ghost use Rattle.marks.specs.Pairs.{pair_in, place, mark};
 
-// How many marks the buffer has room for, and how many words it has.
-pub const PAIRS: usize = 32;
-
+// How many words the buffer has: two for each of 32 marks.
 pub const LENGTH: usize = 64;
 
-// Whether any pair at index `from` or later has this name.
-pub fn has_name(marks: &[u64], from: usize, name: u64) -> bool
-    requires long { length marks.now ≡ marks_length }
-    requires within { from ≤ pair_count }
-    ensures { result ≡ among name (rest marks.now from) }
+pub fn pairs_of(marks: &[u64]) -> &[[u64; 2]]
+    ensures { map pair_in result.now ≡ pairs_of marks.now }
 {
-    let mut p = from;
-    while p < PAIRS {
-        if marks[2 * p] == name {
-            return true;
-        }
-        p += 1;
-    }
-    false
+    marks.as_chunks::<2>().0
 }
 
-// The first pair with a name that is there.
-pub fn place_of(marks: &[u64], name: u64) -> usize
-    requires long { length marks.now ≡ marks_length }
-    requires there { among name (pairs_of marks.now) ≡ true }
-    ensures place { result ≡ place_of name (pairs_of marks.now) }
-    ensures within { result < pair_count }
+pub fn has_name(pairs: &[[u64; 2]], name: u64) -> bool
+    ensures { result ≡ among name (map pair_in pairs.now) }
 {
-    let mut p = 0;
-    while p < PAIRS {
-        if marks[2 * p] == name {
-            return p;
-        }
-        p += 1;
+    pairs.iter().any(|pair| pair[0] == name)
+}
+
+// The index of the first pair with a name.
+pub fn place_of(pairs: &[[u64; 2]], name: u64) -> Option<usize>
+    ensures { result ≡ place name (map pair_in pairs.now) }
+{
+    pairs.iter().position(|pair| pair[0] == name)
+}
+
+// The same for the name of a mark. All zero is none, though every free pair has it.
+pub fn mark_of(pairs: &[[u64; 2]], name: u64) -> Option<usize>
+    ensures { result ≡ mark name (map pair_in pairs.now) }
+{
+    if name == 0 {
+        None
+    } else {
+        place_of(pairs, name)
     }
-    p
 }

@@ -1,15 +1,10 @@
-use Rattle.std.proofs.Common.{arith, sym, ◌∙◌}
-use Rattle.marks.specs.Pairs.{here, not-here, nowhere}
+use Rattle.std.proofs.Common.{◌==◌, get_or, ◌∙◌, rules, tests}
+use Rattle.std.proofs.lemmas.Iterator.{YieldsList-from_slice}
+use Rattle.std.proofs.lemmas.Iterator.Search.{any_from_yields_List}
+use Rattle.marks.specs.Pairs.{any-among}
 use Rattle.marks.proofs.pairs.has_name.Goals as goal
-
-pub returns-then-marks-p : goal.returns-then-marks-p
-returns-then-marks-p c =
-    sym (c.loop-p.invariant.1 ∙ here _ _ _ c.requires.long c.loop-p-test.true c.if-marks-p.true)
-
-pub loop-p-preserved : goal.loop-p-preserved
-loop-p-preserved c =
-    (omega arith, c.loop-p.invariant.1 ∙ not-here _ _ _ c.requires.long c.loop-p-test.true c.if-marks-p.false)
 
 pub returns : goal.returns
 returns c =
-    sym (c.loop-p.invariant.1 ∙ nowhere _ _ _ c.requires.long c.loop-p-test.false)
+    any_from_yields_List (λ two. get_or two 0 0 == c.args.name) _ _ c.any.result c.any.ensures.ran (YieldsList-from_slice _ c.iter.ensures.rest) (λ x b q k. search (rules, tests))
+    ∙ any-among c.args.name c.args.pairs.now

@@ -1,23 +1,11 @@
-use Rattle.std.proofs.Common.{sym, ◌∙◌}
-use Rattle.marks.specs.MarksVerdictLaws.{wrong-length, no-log, wrong-marks, marks-pass}
+use Rattle.std.proofs.Common.{rules, of_calls}
+use Rattle.marks.specs.MarksVerdictLaws.{wrong, faulty, lengths-decide, words-decide}
 use Rattle.marks.proofs.verdict.marks_verdict.Goals as goal
 
-pub returns-then-marks-ne-LENGTH : goal.returns-then-marks-ne-LENGTH
-returns-then-marks-ne-LENGTH c = let args = c.args in wrong-length args.state.now args.entries.now args.marks.now c.if-marks-ne-LENGTH.true
-
-pub returns-in-Refused : goal.returns-in-Refused
-returns-in-Refused c =
-    let args = c.args in
-    no-log args.state.now args.entries.now args.marks.now c.if-marks-ne-LENGTH.false c.check_log-c.ensures c.in-Refused.is
-
-pub returns-then-marks_fit : goal.returns-then-marks_fit
-returns-then-marks_fit c =
-    let args = c.args in
-    marks-pass args.state.now args.entries.now args.marks.now c.if-marks-ne-LENGTH.false c.check_log-c.ensures
-    c.in-Passed.is (sym c.marks_fit.ensures ∙ c.if-marks_fit.true)
-
-pub returns-else-marks_fit : goal.returns-else-marks_fit
-returns-else-marks_fit c =
-    let args = c.args in
-    wrong-marks args.state.now args.entries.now args.marks.now c.if-marks-ne-LENGTH.false c.check_log-c.ensures
-    c.in-Passed.is (sym c.marks_fit.ensures ∙ c.if-marks_fit.false)
+pub returns : goal.returns
+returns c =
+    let s = c.args.state.now in
+    let e = c.args.entries.now in
+    let ms = c.args.marks.now in
+    c.verdict.ensures (wrong s e ms) (faulty s e ms) (lengths-decide s e ms (search rules))
+    (λ h ok at called. words-decide s e ms at (search (rules, of_calls)))

@@ -1,0 +1,27 @@
+use Rattle.std.proofs.lemmas.Result.{err_from_is_err_and}
+use Rattle.std.specs.Option.{ok_or}
+use Rattle.std.proofs.Common.{Option, ℕ, ap, ◌∙◌}
+use Rattle.chain.specs.declared.answer.Refusal.TheVariants.{MarksFull}
+use Rattle.marks.specs.Pairs.{place}
+use Rattle.marks.specs.DecidedLaws.{set-refused, set-taken, set-found}
+use Rattle.marks.proofs.verdict.free_place.Goals as goal
+
+pub returns-in_err-marks_verdict : goal.returns-in_err-marks_verdict
+returns-in_err-marks_verdict c =
+    let args = c.args in
+    let p = err_from_is_err_and c.from_residual.result c.from_residual.ensures.1 in
+    rw (p.1, p.2) (set-refused args.name args.state.now args.entries.now args.marks.now _ c.marks_verdict.ensures _ c.in_err-marks_verdict.was)
+
+pub returns-then-name-taken : goal.returns-then-name-taken
+returns-then-name-taken c =
+    let args = c.args in
+    set-taken args.name args.state.now args.entries.now args.marks.now _ c.marks_verdict.ensures c.in_ok-marks_verdict.was
+    (rw (c.has_name-taken.ensures, c.pairs_of-pairs.ensures) at c.if-name-taken.true)
+
+pub returns : goal.returns
+returns c =
+    let args = c.args in
+    c.ok_or.ensures.value
+    ∙ ap (λ (o : Option ℕ). ok_or o MarksFull) (c.place_of.ensures ∙ ap (place 0) c.pairs_of-pairs.ensures)
+    ∙ set-found args.name args.state.now args.entries.now args.marks.now _ c.marks_verdict.ensures c.in_ok-marks_verdict.was
+    (rw (c.has_name-taken.ensures, c.pairs_of-pairs.ensures) at c.if-name-taken.false)
