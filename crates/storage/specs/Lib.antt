@@ -3,6 +3,5 @@ pub mod WrappingLaws
 pub mod PlaneLaws
 pub mod WritingLaws
 pub mod Restoring
-pub mod DecidedLaws
 pub mod StoragePromise
 pub mod StorageTheorem

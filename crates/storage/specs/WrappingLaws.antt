@@ -1,10 +1,7 @@
 -- Differences and sums that wrap undo each other.
-use Rattle.std.specs.Prelude.{◌≡◌, ℕ, zero, suc, ◌+◌, ◌%◌, ◌^◌, ◌<◌, List, [], ◌∷◌, length, refl}
+use Rattle.std.specs.Prelude.{◌≡◌, ℕ, zero, suc, ◌^◌, ◌<◌, List, [], ◌∷◌, length, refl}
 use Rattle.std.proofs.Common.{arith, ap, ◌∙◌}
 use Rattle.storage.specs.Storage.{Below, minus, plus, differences_after, differences, sums_after}
-
-pub minus_is : (a b r : ℕ) → a < 2 ^ 64 → b < 2 ^ 64 → r < 2 ^ 64 → (r + b) % 2 ^ 64 ≡ a → r ≡ minus a b
-minus_is a b r la lb lr e = omega arith
 
 first-stays : (w : ℕ) → w < 2 ^ 64 → minus w 0 ≡ w
 first-stays w l = omega arith

@@ -5,22 +5,19 @@ ghost use Rattle.storage.specs.Storage.{differences, plane, rearrangement, stora
 
 use chain::answer::{Answer, Refusal};
 
-const PLANES: u64 = 8;
+const PLANES: usize = 8;
 
 // Plane j. The first has the most significant bytes.
-fn write_plane(words: &[u64], bytes: &mut [u8], j: u64)
+fn write_plane(words: &[u64], bytes: &mut [u8], j: usize)
     requires { (j < 8) × (length bytes.old ≡ length words.now) }
     ensures { bytes.new ≡ plane (7 - j) (differences words.now) }
 {
     let shift = 56 - 8 * j;
     let mut before: u64 = 0;
-    let mut i: usize = 0;
-    while i < words.len() {
-        let word = words[i];
-        let difference = std::num::wrapping_sub_u64(word, before);
+    for (i, &word) in words.iter().enumerate() {
+        let difference = word.wrapping_sub(before);
         bytes[i] = ((difference >> shift) % 256) as u8;
         before = word;
-        i += 1;
     }
 }
 
@@ -29,16 +26,13 @@ fn write_planes(words: &[u64], bytes: &mut [u8])
     requires { (length words.now ≤ rearrange_limit) × (length bytes.old ≡ 8 * length words.now) }
     ensures { bytes.new ≡ rearrangement words.now }
 {
-    let mut j: u64 = 0;
-    let mut start: usize = 0;
-    while j < PLANES {
-        let end = start + words.len();
-        write_plane(words, &mut bytes[start..end], j);
-        start = end;
-        j += 1;
+    let n = words.len();
+    for j in 0..PLANES {
+        write_plane(words, &mut bytes[j * n..(j + 1) * n], j);
     }
 }
 
+#[tactic(auto, unfolding(crate::specs::Storage::storage_answer, crate::specs::Storage::bytes_after))]
 pub fn rearrange(words: &[u64], bytes: &mut [u8]) -> Answer
     ensures answers { result ≡ storage_answer (length words.now) (length bytes.old) }
     ensures writes { bytes.new ≡ bytes_after words.now bytes.old }
