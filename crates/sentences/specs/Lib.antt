@@ -3,7 +3,6 @@ pub mod Sentences
 pub mod Read
 pub mod ApartLaws
 pub mod PhraseTableLaws
-pub mod ArmLaws
 pub mod LengthLaws
 pub mod ReadLaws
 pub mod SentencesPromise

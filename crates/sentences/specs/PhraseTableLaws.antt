@@ -1,10 +1,13 @@
--- The tables of phrases, tested once by computing: how many there are, and the bytes of each.
-use Rattle.std.specs.Prelude.{ℕ, zero, suc, ◌<◌, ◌≤◌, ◌≡◌, refl, Bool, true, ◌&&◌, List, [], ◌∷◌, length, get_or}
-use Rattle.std.proofs.Common.{arith}
+-- The tables of phrases, tested once by computing: how many there are, and the bytes of each. What the code finds in its own tables.
+use Rattle.std.specs.Prelude.{ℕ, zero, suc, ◌-◌, ◌<◌, ◌≤◌, ◌≡◌, refl, Bool, true, ◌&&◌, List, [], ◌∷◌, length, get_or}
+use Rattle.std.proofs.Common.{arith, sym, ap, ◌∙◌}
+use Rattle.std.specs.List.{position_or_len, position}
+use Rattle.std.specs.Borrow.{Bor}
+use Rattle.std.proofs.lemmas.List.{length-map, get_or-map}
 use Rattle.std.proofs.Math.Bool.{and-eq-true_iff}
 use Rattle.checks.specs.Test.{every_from, test, Holds}
-use Rattle.checks.specs.TestLaws.{true-holds}
-use Rattle.sentences.specs.Phrases.{step_names, reasons, step_name, reason, phrase_test, longest_name, longest_reason}
+use Rattle.checks.specs.TestLaws.{true-holds, by_bool}
+use Rattle.sentences.specs.Phrases.{texts, step_names, reasons, step_name, reason, phrase_test, longest_name, longest_reason}
 
 passes_all : ℕ → List (List ℕ) → Bool
 passes_all longest [] = true
@@ -41,3 +44,23 @@ pub reason-holds : (refusal : ℕ) → 1 ≤ refusal → refusal ≤ 28 → Hold
 unfolding reason
 reason-holds zero s l = absurd (omega arith)
 reason-holds (suc i) s l = passes longest_reason reasons reasons-pass i (omega (arith, reason-count))
+
+pub reason-entry : (refusal : ℕ) → 1 ≤ refusal → get_or reasons (refusal - 1) [] ≡ reason refusal
+unfolding reason
+reason-entry zero l = absurd (omega arith)
+reason-entry (suc i) l = let e : suc i - 1 ≡ i = omega arith in rw e
+
+-- A table of the code with the phrases of a table here.
+module _ (found : List (Bor (List ℕ))) (table : List (List ℕ)) (same : texts found ≡ table) where
+  pub texts-length : length found ≡ length table
+  texts-length = sym (length-map found (λ phrase. phrase.now)) ∙ ap (length {A = List ℕ}) same
+
+  pub texts-at : (i : ℕ) (d : Bor (List ℕ)) → i < length table → (get_or found i d).now ≡ get_or table i []
+  texts-at i d l = sym (get_or-map (λ phrase. phrase.now) found i d [] (omega (arith, texts-length))) ∙ ap (λ (t : List (List ℕ)). get_or t i []) same
+
+texts-first : (p : List ℕ → Bool) (found : List (Bor (List ℕ))) → position_or_len (λ phrase. p phrase.now) found ≡ position_or_len p (texts found)
+texts-first p [] = refl
+texts-first p (x ∷ others) = by_bool (p x.now) (λ h. rw h) (λ h. rw (h, texts-first p others))
+
+pub texts-position : (p : List ℕ → Bool) (found : List (Bor (List ℕ))) → position (λ phrase. p phrase.now) found ≡ position p (texts found)
+texts-position p found = rw (texts-first p found, length-map found (λ phrase. phrase.now))

@@ -1,5 +1,6 @@
 -- The fixed phrases of a sentence: the name of each step and the reason of each refusal, in the order of their numbers.
-use Rattle.std.specs.Prelude.{ℕ, List, [], ◌∷◌, length, get_or}
+use Rattle.std.specs.Prelude.{ℕ, List, [], ◌∷◌, length, get_or, map}
+use Rattle.std.specs.Borrow.{Bor}
 use Rattle.text.specs.Bytes.{bytes}
 use Rattle.checks.specs.Test.{Test, same, at_most, both, either, every}
 
@@ -50,6 +51,10 @@ reasons =
     ∷ bytes "the text buffer has fewer than ninety six bytes"
     ∷ bytes "there is no sentence for these numbers"
     ∷ []
+
+-- The phrases of a table of the code.
+abbrev pub texts : List (Bor (List ℕ)) → List (List ℕ)
+texts table = map (λ phrase. phrase.now) table
 
 -- Where there is no such step or refusal, its phrase is empty.
 unfoldable pub step_name : ℕ → List ℕ

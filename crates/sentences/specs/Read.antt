@@ -1,68 +1,62 @@
 -- A sentence read back: the step whose name begins it, " of client ", the client's numeral up to the colon, ": ", and the refusal whose reason is all that follows.
-use Rattle.std.specs.Prelude.{ℕ, suc, Bool, cond, List, [], ◌∷◌, length, take, drop, leb}
+use Rattle.std.specs.Prelude.{ℕ, ◌+◌, Bool, cond, Option, Some, None, option_and_then, List, length, take, drop, leb}
+use Rattle.std.specs.List.{position}
 use Prim.Native.Char.{code}
-use Rattle.text.specs.declared.decimal.Numeral.{Numeral}
-use Rattle.text.specs.declared.decimal.Numeral.TheVariants.{Number, NotNumeral}
 use Rattle.text.specs.Bytes.{bytes}
 use Rattle.text.specs.Decimal.{numeral_of}
 use Rattle.text.specs.Find.{index_of}
 use Rattle.text.specs.Phrase.{same_bytes}
-use Rattle.sentences.specs.declared.answer.SentenceRead.{SentenceRead}
-use Rattle.sentences.specs.declared.answer.SentenceRead.TheVariants.{Says, NotSentence}
-use Rattle.sentences.specs.Phrases.{step_names, reasons}
+use Rattle.sentences.specs.declared.answer.SentenceNumbers.{SentenceNumbers}
+use Rattle.sentences.specs.Phrases.{step_names, reasons, step_name}
 use Rattle.sentences.specs.Sentences.{last_client}
 
--- A phrase begins a text; where it ends there, 0 where it does not begin it.
+infixl 10 ◌>>=◌
+abbrev ◌>>=◌ : {A B : Type 0} → Option A → (A → Option B) → Option B
+o >>= f = option_and_then f o
+
+-- A phrase begins a text; what follows it there.
 unfoldable pub begins : List ℕ → List ℕ → Bool
 begins bs phrase = same_bytes (take (length phrase) bs) phrase
 
-unfoldable pub phrase_end : List ℕ → List ℕ → ℕ
-phrase_end bs phrase = cond (begins bs phrase) (length phrase) 0
+unfoldable pub behind : List ℕ → List ℕ → Option (List ℕ)
+behind phrase bs = cond (begins bs phrase) (Some (drop (length phrase) bs)) None
 
--- What is read behind a phrase that begins the text.
-unfoldable pub after_phrase : List ℕ → (List ℕ → SentenceRead) → List ℕ → SentenceRead
-after_phrase phrase read bs = cond (begins bs phrase) (read (drop (length phrase) bs)) NotSentence
+-- The client that a numeral names, if there may be one.
+abbrev pub client_of : List ℕ → Option ℕ
+client_of numeral = do
+  client ← numeral_of numeral
+  cond (leb client last_client) (Some client) None
 
--- The first phrase of a table that passes, where the table's first has the number n.
-unfoldable pub first_of : (List ℕ → Bool) → (ℕ → List ℕ → SentenceRead) → ℕ → List (List ℕ) → SentenceRead
-first_of passes found n [] = NotSentence
-first_of passes found n (phrase ∷ others) = cond (passes phrase) (found n phrase) (first_of passes found (suc n) others)
+-- What a text says that is exactly a sentence; nothing, where it is none.
+abbrev pub SentenceRead : Type 0
+SentenceRead = Option SentenceNumbers
 
 abbrev pub says : ℕ → ℕ → ℕ → SentenceRead
-says step client refusal = Says (record { step = step; client = client; refusal = refusal })
+says step client refusal = Some (record { step = step; client = client; refusal = refusal })
 
-unfoldable pub read_reason : ℕ → ℕ → List ℕ → SentenceRead
-read_reason step client bs = first_of (same_bytes bs) (λ refusal _. says step client refusal) 1 reasons
-
-unfoldable pub read_colon : ℕ → ℕ → List ℕ → SentenceRead
-read_colon step client = after_phrase (bytes ": ") (read_reason step client)
-
-abbrev pub read_number : ℕ → Numeral → List ℕ → SentenceRead
-read_number step (Number client) bs = cond (leb client last_client) (read_colon step client bs) NotSentence
-read_number step NotNumeral bs = NotSentence
-
-unfoldable pub read_client : ℕ → List ℕ → SentenceRead
-read_client step bs = read_number step (numeral_of (take (index_of (code ":") bs) bs)) (drop (index_of (code ":") bs) bs)
-
-unfoldable pub read_tail : ℕ → List ℕ → SentenceRead
-read_tail step = after_phrase (bytes " of client ") (read_client step)
-
+-- Of the phrases of a table the first counts that passes.
 unfoldable pub read_sentence : List ℕ → SentenceRead
-read_sentence bs = first_of (begins bs) (λ step name. read_tail step (drop (length name) bs)) 0 step_names
+read_sentence bs = do
+  step ← position (begins bs) step_names
+  numeral ← behind (bytes " of client ") (drop (length (step_name step)) bs)
+  client ← client_of (take (index_of (code ":") numeral) numeral)
+  reason ← behind (bytes ": ") (drop (index_of (code ":") numeral) numeral)
+  place ← position (same_bytes reason) reasons
+  says step client (place + 1)
 
 -- What is read as four numbers: 1 where the bytes are a sentence, its step, its client and its refusal; each 0 where they are none.
 abbrev pub sentence_found : SentenceRead → ℕ
-sentence_found (Says x) = 1
-sentence_found NotSentence = 0
+sentence_found (Some x) = 1
+sentence_found None = 0
 
 abbrev pub sentence_step : SentenceRead → ℕ
-sentence_step (Says x) = x.step
-sentence_step NotSentence = 0
+sentence_step (Some x) = x.step
+sentence_step None = 0
 
 abbrev pub sentence_client : SentenceRead → ℕ
-sentence_client (Says x) = x.client
-sentence_client NotSentence = 0
+sentence_client (Some x) = x.client
+sentence_client None = 0
 
 abbrev pub sentence_refusal : SentenceRead → ℕ
-sentence_refusal (Says x) = x.refusal
-sentence_refusal NotSentence = 0
+sentence_refusal (Some x) = x.refusal
+sentence_refusal None = 0

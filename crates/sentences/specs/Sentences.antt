@@ -1,5 +1,5 @@
 -- The sentence of a refusal, what is answered of it, and every byte of the text buffer afterwards.
-use Rattle.std.specs.Prelude.{ℕ, List, [], ◌∷◌, ◌++◌, length, drop}
+use Rattle.std.specs.Prelude.{ℕ, List, [], ◌∷◌, ◌++◌, length, drop, Result, Ok, Err}
 use Rattle.text.specs.Bytes.{bytes}
 use Rattle.text.specs.Decimal.{decimal}
 use Rattle.checks.specs.Test.{Test, same, less, either}
@@ -7,8 +7,6 @@ use Rattle.checks.specs.Checks.{Check, ◌when◌, first}
 use Rattle.chain.specs.declared.answer.Refusal.{Refusal}
 use Rattle.chain.specs.declared.answer.Refusal.TheVariants.{TextTooShort, NoSentence}
 use Rattle.chain.specs.Answers.{refusal_number, done, refused}
-use Rattle.sentences.specs.declared.answer.SentenceAnswer.{SentenceAnswer}
-use Rattle.sentences.specs.declared.answer.SentenceAnswer.TheVariants.{Length, Refused}
 use Rattle.sentences.specs.Phrases.{step_name, reason}
 
 unfoldable pub sentence : ℕ → ℕ → ℕ → List ℕ
@@ -34,8 +32,12 @@ unsaid step client refusal = either (either (less last_step step) (less last_cli
 abbrev pub sentence_checks : ℕ → ℕ → ℕ → List ℕ → List (Check Refusal)
 sentence_checks step client refusal text = (TextTooShort when less (length text) fewest_bytes) ∷ (NoSentence when unsaid step client refusal) ∷ []
 
+-- The sentence's length in bytes, or the refusal.
+abbrev pub SentenceAnswer : Type 0
+SentenceAnswer = Result ℕ Refusal
+
 unfoldable pub sentence_answer : ℕ → ℕ → ℕ → List ℕ → SentenceAnswer
-sentence_answer step client refusal text = first (sentence_checks step client refusal text) Refused (Length (length (sentence step client refusal)))
+sentence_answer step client refusal text = first (sentence_checks step client refusal text) Err (Ok (length (sentence step client refusal)))
 
 -- The sentence is at the beginning, and the bytes after it stay. A refusal leaves all of them.
 unfoldable pub sentence_text : ℕ → ℕ → ℕ → List ℕ → List ℕ
@@ -44,9 +46,9 @@ sentence_text step client refusal text = first (sentence_checks step client refu
 
 -- The answer as two numbers: done or the refusal, and the sentence's length, 0 on a refusal.
 abbrev pub sentence_number : SentenceAnswer → ℕ
-sentence_number (Length n) = done
-sentence_number (Refused r) = refused (refusal_number r)
+sentence_number (Ok n) = done
+sentence_number (Err r) = refused (refusal_number r)
 
 abbrev pub sentence_length : SentenceAnswer → ℕ
-sentence_length (Length n) = n
-sentence_length (Refused r) = 0
+sentence_length (Ok n) = n
+sentence_length (Err r) = 0

@@ -2,18 +2,17 @@
 #![tactic(auto)]
 
 pub mod answer;
-mod begin;
-mod name;
+mod phrase;
 pub mod read;
-mod reason;
 
-ghost use Rattle.std.specs.Prelude.{◌≡◌, ◌≤◌};
+ghost use Rattle.std.specs.Prelude.{◌≡◌};
 ghost use Rattle.text.specs.Puts.{Puts, Room};
-ghost use Rattle.checks.specs.Test.{test};
+ghost use Rattle.checks.specs.Test.{Fails, test};
 ghost use Rattle.sentences.specs.Sentences.{sentence, unsaid, sentence_answer, sentence_text};
 
-use answer::SentenceAnswer;
 use chain::answer::Refusal;
+use phrase::{name, reason};
+use text::writer::Writer;
 
 // The fewest bytes of a text buffer, and the last number of a step, of a client and of a refusal.
 pub const FEWEST_BYTES: usize = 96;
@@ -27,31 +26,35 @@ const LAST_REFUSAL: u64 = 28;
 fn is_unsaid(step: u64, client: u64, refusal: u64) -> bool
     ensures { result ≡ test (unsaid step client refusal) }
 {
-    ((LAST_STEP < step) | (LAST_CLIENT < client)) | ((refusal == 0) | (LAST_REFUSAL < refusal))
+    step > LAST_STEP || client > LAST_CLIENT || refusal == 0 || refusal > LAST_REFUSAL
 }
 
-fn put_sentence(text: &mut [u8], step: u64, client: u64, refusal: u64) -> usize
-    requires some { 1 ≤ refusal }
-    requires room { Room text.old 0 (sentence step client refusal) }
-    ensures { Puts text.old 0 (sentence step client refusal) text.new result }
+fn put_sentence(to: &mut Writer, step: u64, client: u64, refusal: u64)
+    requires numbers { Fails (unsaid step client refusal) }
+    requires room { Room to.old.text.now to.old.at (sentence step client refusal) }
+    ensures puts { Puts to.old.text.now to.old.at (sentence step client refusal) to.new.text.now to.new.at }
+    ensures same_text { to.new.text.ghost_name ≡ to.old.text.ghost_name }
 {
-    let e = name::put_name(text, 0, step);
-    let f = text::phrase::put_phrase(text, e, b" of client ");
-    let g = text::decimal::put_decimal(text, f, client);
-    let h = text::phrase::put_phrase(text, g, b": ");
-    reason::put_reason(text, h, refusal)
+    to.put_phrase(name(step as usize));
+    to.put_phrase(b" of client ");
+    to.put_decimal(client);
+    to.put_phrase(b": ");
+    to.put_phrase(reason(refusal as usize));
 }
 
-pub fn sentence(step: u64, client: u64, refusal: u64, text: &mut [u8]) -> SentenceAnswer
+// The C interface's `cindrolf_sentence` passes any numbers: 28 refuses those that have no sentence.
+#[tactic(auto, using(crate::proofs::SaidLaws::room), unfolding(crate::specs::Sentences::sentence_answer, crate::specs::Sentences::sentence_text))]
+pub fn sentence(step: u64, client: u64, refusal: u64, text: &mut [u8]) -> Result<u64, Refusal>
     ensures answer { result ≡ sentence_answer step client refusal text.old }
     ensures text { text.new ≡ sentence_text step client refusal text.old }
 {
     if text.len() < FEWEST_BYTES {
-        return SentenceAnswer::Refused(Refusal::TextTooShort);
+        return Err(Refusal::TextTooShort);
     }
     if is_unsaid(step, client, refusal) {
-        return SentenceAnswer::Refused(Refusal::NoSentence);
+        return Err(Refusal::NoSentence);
     }
-    let length = put_sentence(text, step, client, refusal);
-    SentenceAnswer::Length(length as u64)
+    let mut to = Writer { text, at: 0 };
+    put_sentence(&mut to, step, client, refusal);
+    Ok(to.at as u64)
 }

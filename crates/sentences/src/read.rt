@@ -1,83 +1,49 @@
 // A sentence read back: its fixed phrases are compared in place, and the client's number is read between them.
 ghost use Rattle.std.specs.Prelude.{◌≡◌};
-ghost use Rattle.sentences.specs.Read.{read_reason, read_colon, read_number, read_client, read_tail, read_sentence};
+ghost use Rattle.std.specs.List.{position};
+ghost use Rattle.text.specs.Phrase.{same_bytes};
+ghost use Rattle.sentences.specs.Phrases.{step_names, reasons};
+ghost use Rattle.sentences.specs.Read.{begins, client_of, read_sentence};
 
-use crate::answer::{SentenceNumbers, SentenceRead};
-use text::decimal::Numeral;
+use crate::answer::SentenceNumbers;
+use crate::phrase::{name, names, reasons};
+use text::phrase::is_phrase;
 
-// The reason, which ends the text.
-fn read_reason(step: u64, client: u64, bytes: &[u8]) -> SentenceRead
-    ensures { result ≡ read_reason step client bytes.now }
+// The step whose name begins the text. No name begins another, so the first is the only one.
+fn step_of(bytes: &[u8]) -> Option<usize>
+    ensures { result ≡ position (begins bytes.now) step_names }
 {
-    let mut refusal = 1;
-    while refusal <= crate::LAST_REFUSAL {
-        if crate::reason::is_reason(bytes, refusal) {
-            return SentenceRead::Says(SentenceNumbers {
-                step,
-                client,
-                refusal,
-            });
-        }
-        refusal += 1;
-    }
-    SentenceRead::NotSentence
+    names().iter().position(|name| bytes.starts_with(name))
 }
 
-fn read_colon(step: u64, client: u64, bytes: &[u8]) -> SentenceRead
-    ensures { result ≡ read_colon step client bytes.now }
+// The place, from 0, of the reason that is the whole text.
+fn reason_place(bytes: &[u8]) -> Option<usize>
+    ensures { result ≡ position (same_bytes bytes.now) reasons }
 {
-    let end = crate::begin::phrase_end(bytes, b": ");
-    if end == 0 {
-        return SentenceRead::NotSentence;
-    }
-    read_reason(step, client, &bytes[end..])
+    reasons().iter().position(|reason| is_phrase(bytes, reason))
 }
 
-// What follows the client's number, where it is one.
-fn read_number(step: u64, client: Numeral, bytes: &[u8]) -> SentenceRead
-    ensures { result ≡ read_number step client bytes.now }
+// The client that a numeral names, if there may be one.
+fn client_of(numeral: &[u8]) -> Option<u64>
+    ensures { result ≡ client_of numeral.now }
 {
-    let Numeral::Number(c) = client else {
-        return SentenceRead::NotSentence;
-    };
-    if c <= crate::LAST_CLIENT {
-        read_colon(step, c, bytes)
-    } else {
-        SentenceRead::NotSentence
-    }
+    text::decimal::parse_decimal(numeral).filter(|&c| c <= crate::LAST_CLIENT)
 }
 
-// The number ends before the first colon.
-fn read_client(step: u64, bytes: &[u8]) -> SentenceRead
-    ensures { result ≡ read_client step bytes.now }
-{
-    let colon = text::find::index_from(bytes, 0, b':');
-    let client = text::decimal::parse_decimal(&bytes[0..colon]);
-    read_number(step, client, &bytes[colon..])
-}
-
-// What follows the step's name.
-fn read_tail(step: u64, bytes: &[u8]) -> SentenceRead
-    ensures { result ≡ read_tail step bytes.now }
-{
-    let end = crate::begin::phrase_end(bytes, b" of client ");
-    if end == 0 {
-        return SentenceRead::NotSentence;
-    }
-    read_client(step, &bytes[end..])
-}
-
-// Of a text of any length. Names are tried in the order of their steps: none begins another.
-pub fn read_sentence(bytes: &[u8]) -> SentenceRead
+// Of a text of any length. The name is sliced off, since `step_of` has compared it; the client's numeral ends before the first colon.
+pub fn read_sentence(bytes: &[u8]) -> Option<SentenceNumbers>
     ensures { result ≡ read_sentence bytes.now }
 {
-    let mut step = 0;
-    while step <= crate::LAST_STEP {
-        let end = crate::name::name_end(bytes, step);
-        if end != 0 {
-            return read_tail(step, &bytes[end..]);
-        }
-        step += 1;
-    }
-    SentenceRead::NotSentence
+    let step = step_of(bytes)?;
+    let bytes = &bytes[name(step).len()..];
+    let bytes = bytes.strip_prefix(b" of client ")?;
+    let colon = text::find::index_from(bytes, 0, b':');
+    let client = client_of(&bytes[..colon])?;
+    let reason = bytes[colon..].strip_prefix(b": ")?;
+    let place = reason_place(reason)?;
+    Some(SentenceNumbers {
+        step: step as u64,
+        client,
+        refusal: place as u64 + 1,
+    })
 }

@@ -2,41 +2,37 @@ use Rattle.sentences.specs.Sentences.{sentence}
 use Rattle.text.specs.Puts.{puts_then, room-first, room_next}
 use Rattle.sentences.proofs.put_sentence.Goals as goal
 
-pub put_name-e-requires : goal.put_name-e-requires
+pub put_phrase-requires : goal.put_phrase-requires
 unfolding sentence
-put_name-e-requires c = room-first _ _ c.requires.room
+put_phrase-requires c = rw c.name.ensures (room-first _ _ c.requires.room)
 
-pub put_phrase-f-requires : goal.put_phrase-f-requires
+pub put_phrase-requires-2 : goal.put_phrase-requires-2
 unfolding sentence
-put_phrase-f-requires c =
-    room-first _ _ (room_next c.put_name-e.ensures _ c.requires.room)
+put_phrase-requires-2 c =
+    room-first _ _ (room_next c.put_phrase.ensures.puts _ (rw (← c.name.ensures) at c.requires.room))
 
-pub put_decimal-g-requires : goal.put_decimal-g-requires
+pub put_decimal-requires : goal.put_decimal-requires
 unfolding sentence
-put_decimal-g-requires c =
-    room-first _ _ (room_next c.put_phrase-f.ensures _ (room_next c.put_name-e.ensures _ c.requires.room))
+put_decimal-requires c =
+    room-first _ _ (room_next c.put_phrase-2.ensures.puts _ (room_next c.put_phrase.ensures.puts _ (rw (← c.name.ensures) at c.requires.room)))
 
-pub put_phrase-h-requires : goal.put_phrase-h-requires
+pub put_phrase-requires-3 : goal.put_phrase-requires-3
 unfolding sentence
-put_phrase-h-requires c =
+put_phrase-requires-3 c =
     room-first _ _
-    (room_next c.put_decimal-g.ensures _
-    (room_next c.put_phrase-f.ensures _ (room_next c.put_name-e.ensures _ c.requires.room)))
+    (room_next c.put_decimal.ensures.puts _
+    (room_next c.put_phrase-2.ensures.puts _ (room_next c.put_phrase.ensures.puts _ (rw (← c.name.ensures) at c.requires.room))))
 
-pub put_reason-requires : goal.put_reason-requires
+pub put_phrase-requires-4 : goal.put_phrase-requires-4
 unfolding sentence
-put_reason-requires c =
-    record {
-      some = c.requires.some;
-      room = room_next c.put_phrase-h.ensures _
-          (room_next c.put_decimal-g.ensures _
-          (room_next c.put_phrase-f.ensures _ (room_next c.put_name-e.ensures _ c.requires.room)));
-    }
+put_phrase-requires-4 c =
+    rw c.reason.ensures
+    (room_next c.put_phrase-3.ensures.puts _
+    (room_next c.put_decimal.ensures.puts _
+    (room_next c.put_phrase-2.ensures.puts _ (room_next c.put_phrase.ensures.puts _ (rw (← c.name.ensures) at c.requires.room)))))
 
-pub returns : goal.returns
+pub returns-clause-puts : goal.returns-clause-puts
 unfolding sentence
-returns c =
-    puts_then c.put_name-e.ensures
-    (puts_then c.put_phrase-f.ensures
-    (puts_then c.put_decimal-g.ensures
-    (puts_then c.put_phrase-h.ensures c.put_reason.ensures)))
+returns-clause-puts c =
+    let p = puts_then c.put_phrase.ensures.puts (puts_then c.put_phrase-2.ensures.puts (puts_then c.put_decimal.ensures.puts (puts_then c.put_phrase-3.ensures.puts c.put_phrase-4.ensures.puts))) in
+    rw (← c.name.ensures, ← c.reason.ensures) p

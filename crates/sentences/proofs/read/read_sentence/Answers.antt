@@ -1,28 +1,74 @@
-use Rattle.std.proofs.Common.{arith, refl, ◌∙◌}
-use Rattle.sentences.specs.PhraseTableLaws.{name-count}
+use Rattle.std.proofs.Common.{arith, sym, ap, ◌∙◌, length}
 use Rattle.sentences.specs.Read.{read_sentence}
-use Rattle.sentences.specs.ReadLaws.{Tried, end-within, tried-all, name-on, name-found}
+use Rattle.sentences.specs.ReadLaws.{named, not_stripped, stripped, colon_place, numeral_read, placed}
+use Rattle.text.specs.Bytes.{bytes}
 use Rattle.sentences.proofs.read.read_sentence.Goals as goal
 
-pub loop-step-init : goal.loop-step-init
-unfolding Tried read_sentence
-loop-step-init c = (omega arith, refl)
+pub returns-in_err-step : goal.returns-in_err-step
+unfolding read_sentence
+returns-in_err-step c = rw (c.from_residual.ensures, sym c.step_of.ensures ∙ c.in_err-step.was)
 
-pub slice_bounds-read_tail-count : goal.slice_bounds-read_tail-count
-slice_bounds-read_tail-count c = omega (arith, end-within _ _ _ c.name_end-end.ensures)
+pub name-requires : goal.name-requires
+name-requires c = (named _ _ (sym c.step_of.ensures ∙ c.in_ok-step.was)).0
 
-pub slice_bounds-read_tail-start : goal.slice_bounds-read_tail-start
-slice_bounds-read_tail-start c = omega (arith, end-within _ _ _ c.name_end-end.ensures)
+pub slice_bounds-bytes-count : goal.slice_bounds-bytes-count
+slice_bounds-bytes-count c = omega (arith, ap length c.name.ensures, (named _ _ (sym c.step_of.ensures ∙ c.in_ok-step.was)).1)
 
-pub returns-then-end-ne0 : goal.returns-then-end-ne0
-returns-then-end-ne0 c =
-    let at-loop = c.loop-step in
-    c.read_tail.ensures ∙ name-found _ _ _ _ at-loop.invariant.1 (omega arith) c.name_end-end.ensures c.if-end-ne0.true
+pub slice_bounds-bytes-start : goal.slice_bounds-bytes-start
+slice_bounds-bytes-start c = omega (arith, ap length c.name.ensures, (named _ _ (sym c.step_of.ensures ∙ c.in_ok-step.was)).1)
 
-pub loop-step-preserved : goal.loop-step-preserved
-loop-step-preserved c =
-    let at-loop = c.loop-step in
-    (omega arith, name-on _ _ _ _ at-loop.invariant.1 (omega arith) c.name_end-end.ensures c.if-end-ne0.false)
+pub returns-in_err-bytes : goal.returns-in_err-bytes
+unfolding read_sentence
+returns-in_err-bytes c =
+    rw (c.from_residual-in_err-bytes.ensures, sym c.step_of.ensures ∙ c.in_ok-step.was, not_stripped _ _ _ _ (ap length c.name.ensures) c.in_err-bytes.ensures.cases)
+
+pub returns-in_err-client : goal.returns-in_err-client
+unfolding read_sentence
+returns-in_err-client c =
+    rw (
+      c.from_residual-in_err-client.ensures,
+      sym c.step_of.ensures ∙ c.in_ok-step.was,
+      stripped _ _ _ _ (ap length c.name.ensures) _ c.in_ok-bytes.ensures.cases,
+      numeral_read _ _ _ c.index_from-colon.ensures.is c.client_of.ensures,
+      c.in_err-client.was,
+    )
+
+pub returns-in_err-reason : goal.returns-in_err-reason
+unfolding read_sentence
+returns-in_err-reason c =
+    rw (
+      c.from_residual-in_err-reason.ensures,
+      sym c.step_of.ensures ∙ c.in_ok-step.was,
+      stripped _ _ _ _ (ap length c.name.ensures) _ c.in_ok-bytes.ensures.cases,
+      numeral_read _ _ _ c.index_from-colon.ensures.is c.client_of.ensures,
+      c.in_ok-client.was,
+      not_stripped (bytes ": ") _ _ _ (colon_place _ _ c.index_from-colon.ensures.is) c.in_err-reason.ensures.cases,
+    )
+
+pub returns-in_err-place : goal.returns-in_err-place
+unfolding read_sentence
+returns-in_err-place c =
+    rw (
+      c.from_residual-in_err-place.ensures,
+      sym c.step_of.ensures ∙ c.in_ok-step.was,
+      stripped _ _ _ _ (ap length c.name.ensures) _ c.in_ok-bytes.ensures.cases,
+      numeral_read _ _ _ c.index_from-colon.ensures.is c.client_of.ensures,
+      c.in_ok-client.was,
+      stripped (bytes ": ") _ _ _ (colon_place _ _ c.index_from-colon.ensures.is) _ c.in_ok-reason.ensures.cases,
+      sym c.reason_place.ensures ∙ c.in_err-place.was,
+    )
+
+pub overflow_add-result : goal.overflow_add-result
+overflow_add-result c = omega (arith, placed _ _ (sym c.reason_place.ensures ∙ c.in_ok-place.was))
 
 pub returns : goal.returns
-returns c = tried-all _ _ _ _ _ c.loop-step.invariant.1 (omega (arith, name-count))
+unfolding read_sentence
+returns c =
+    rw (
+      sym c.step_of.ensures ∙ c.in_ok-step.was,
+      stripped _ _ _ _ (ap length c.name.ensures) _ c.in_ok-bytes.ensures.cases,
+      numeral_read _ _ _ c.index_from-colon.ensures.is c.client_of.ensures,
+      c.in_ok-client.was,
+      stripped (bytes ": ") _ _ _ (colon_place _ _ c.index_from-colon.ensures.is) _ c.in_ok-reason.ensures.cases,
+      sym c.reason_place.ensures ∙ c.in_ok-place.was,
+    )
