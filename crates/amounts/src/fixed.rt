@@ -1,52 +1,57 @@
 // Amounts with a fixed number of decimals.
-ghost use Rattle.std.specs.Prelude.{◌≡◌, ◌^◌, ◌≤◌};
+ghost use Rattle.std.specs.Prelude.{◌≡◌, ◌^◌, ◌<◌};
 ghost use Rattle.text.specs.Puts.{Puts, Room};
 ghost use Rattle.amounts.specs.Amounts.{padded, pointed, fixed};
 
+use text::writer::Writer;
+
 // The last digits of a number, zeros included.
-fn put_padded(text: &mut [u8], at: usize, places: u64, n: u64) -> usize
-    requires { Room text.old at (padded places n) }
-    ensures { Puts text.old at (padded places n) text.new result }
+fn put_padded(to: &mut Writer, places: u64, n: u64)
+    requires { Room to.old.text.now to.old.at (padded places n) }
+    ensures puts { Puts to.old.text.now to.old.at (padded places n) to.new.text.now to.new.at }
+    ensures same_text { to.new.text.ghost_name ≡ to.old.text.ghost_name }
 {
-    if places == 0 {
-        return at;
+    if places > 0 {
+        put_padded(to, places - 1, n / 10);
+        to.put_decimal(n % 10);
     }
-    let last = put_padded(text, at, places - 1, n / 10);
-    text::decimal::put_decimal(text, last, n % 10)
 }
 
 // The whole part, a point, and so many decimals.
-pub fn put_pointed(text: &mut [u8], at: usize, ones: u64, places: u64, parts: u64) -> usize
-    requires { Room text.old at (pointed ones places parts) }
-    ensures { Puts text.old at (pointed ones places parts) text.new result }
+pub fn put_pointed(to: &mut Writer, ones: u64, places: u64, parts: u64)
+    requires { Room to.old.text.now to.old.at (pointed ones places parts) }
+    ensures puts { Puts to.old.text.now to.old.at (pointed ones places parts) to.new.text.now to.new.at }
+    ensures same_text { to.new.text.ghost_name ≡ to.old.text.ghost_name }
 {
-    let e = text::decimal::put_decimal(text, at, ones);
-    let f = text::phrase::put_byte(text, e, b'.');
-    put_padded(text, f, places, parts)
+    to.put_decimal(ones);
+    to.put_byte(b'.');
+    put_padded(to, places, parts);
 }
 
-// The unit belongs to the whole part.
-fn put_fixed(text: &mut [u8], at: usize, unit: u64, places: u64, n: u64) -> usize
-    requires unit { unit ≡ 10 ^ places }
-    requires some { 1 ≤ unit }
-    requires room { Room text.old at (fixed places n) }
-    ensures { Puts text.old at (fixed places n) text.new result }
+fn put_fixed(to: &mut Writer, places: u32, n: u64)
+    requires small { 10 ^ places < 2 ^ 64 }
+    requires room { Room to.old.text.now to.old.at (fixed places n) }
+    ensures puts { Puts to.old.text.now to.old.at (fixed places n) to.new.text.now to.new.at }
+    ensures same_text { to.new.text.ghost_name ≡ to.old.text.ghost_name }
 {
-    put_pointed(text, at, n / unit, places, n % unit)
+    let unit = 10u64.pow(places);
+    put_pointed(to, n / unit, u64::from(places), n % unit);
 }
 
-// An amount with all its twelve decimals.
-pub fn put_exact(text: &mut [u8], at: usize, amount: u64) -> usize
-    requires { Room text.old at (fixed 12 amount) }
-    ensures { Puts text.old at (fixed 12 amount) text.new result }
+// An amount with all its twelve decimals. This and put_thousandths stay two: each is one line that names the number of decimals.
+pub fn put_exact(to: &mut Writer, amount: u64)
+    requires { Room to.old.text.now to.old.at (fixed 12 amount) }
+    ensures puts { Puts to.old.text.now to.old.at (fixed 12 amount) to.new.text.now to.new.at }
+    ensures same_text { to.new.text.ghost_name ≡ to.old.text.ghost_name }
 {
-    put_fixed(text, at, 1000000000000, 12, amount)
+    put_fixed(to, 12, amount);
 }
 
 // An amount in thousandths.
-pub fn put_thousandths(text: &mut [u8], at: usize, thousandths: u64) -> usize
-    requires { Room text.old at (fixed 3 thousandths) }
-    ensures { Puts text.old at (fixed 3 thousandths) text.new result }
+pub fn put_thousandths(to: &mut Writer, thousandths: u64)
+    requires { Room to.old.text.now to.old.at (fixed 3 thousandths) }
+    ensures puts { Puts to.old.text.now to.old.at (fixed 3 thousandths) to.new.text.now to.new.at }
+    ensures same_text { to.new.text.ghost_name ≡ to.old.text.ghost_name }
 {
-    put_fixed(text, at, 1000, 3, thousandths)
+    put_fixed(to, 3, thousandths);
 }

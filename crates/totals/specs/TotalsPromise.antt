@@ -1,10 +1,9 @@
 -- What the totals of a log promise: they are sums over the accepted writes. TotalsTheorem proves it.
-use Rattle.std.specs.Prelude.{ℕ, ◌+◌, ◌-◌, ◌*◌, ◌^◌, ◌<◌, ◌≤◌, ◌≡◌, List, [], ◌∷◌, ◌⊎◌, length, get_or}
+use Rattle.std.specs.Prelude.{ℕ, ◌+◌, ◌-◌, ◌*◌, ◌^◌, ◌<◌, ◌≤◌, ◌≡◌, List, [], ◌∷◌, ◌⊎◌, length, get_or, Ok, Err}
 use Rattle.records.specs.declared.entry.Entry.{Entry}
 use Rattle.records.specs.Words.{ledger_number}
 use Rattle.chain.specs.declared.answer.Refusal.TheVariants.{NotListed}
 use Rattle.chain.specs.declared.answer.Answer.TheVariants.{Done}
-use Rattle.chain.specs.declared.answer.PlaceAnswer.TheVariants as listing
 use Rattle.chain.specs.Answers.{done, place_number}
 use Rattle.chain.specs.Log.{of_ledger, entry_ledger}
 use Rattle.chain.specs.Steps.{Step}
@@ -13,8 +12,6 @@ use Rattle.chain.specs.Journal.{Journal}
 use Rattle.chain.specs.Values.{sum, sum_of, values}
 use Rattle.chain.specs.LogPromise.{after, told, Listed}
 use Rattle.chain.specs.OrderPromise.{Ordered}
-use Rattle.totals.specs.declared.answer.SumAnswer.TheVariants as sums
-use Rattle.totals.specs.declared.answer.TotalAnswer.TheVariants as totals
 use Rattle.totals.specs.Totals.{summed, ledger_sum, sum_number, run_sum, total_of, run_total, total_number}
 
 -- The greatest sum of a ledger, and of a history: 4,096 values of 2^52 - 1. It is below 2^64.
@@ -33,29 +30,29 @@ writes_along (k ∷ ks) es = sum (values (of_ledger entry_ledger k es)) + writes
 -- Any well-formed log, also one that no history leads to.
 pub record SumsLog (b : Buffers) : Type 0 where
   -- Place after place gives the list, and no other place is answered.
-  pub place : (i : ℕ) → i < length (held b).list → ledger_at (i + 1) b ≡ listing.Ledger (ledger_number (get_or (held b).list i 0))
-  pub no_place : (p : ℕ) → (p ≡ 0) ⊎ (length (held b).list < p) → ledger_at p b ≡ listing.Refused NotListed
+  pub place : (i : ℕ) → i < length (held b).list → ledger_at (i + 1) b ≡ Ok (ledger_number (get_or (held b).list i 0))
+  pub no_place : (p : ℕ) → (p ≡ 0) ⊎ (length (held b).list < p) → ledger_at p b ≡ Err NotListed
   -- A listed ledger's sum is that of what read ledger hands back, and stays in 64 bits.
-  pub ledger : (l : ℕ) → Listed (held b).list l → ledger_sum l b ≡ sums.Sum (summed (read_ledger_part l b))
-  pub no-ledger : (l : ℕ) → (Listed (held b).list l → ⊥) → ledger_sum l b ≡ sums.Refused NotListed
+  pub ledger : (l : ℕ) → Listed (held b).list l → ledger_sum l b ≡ Ok (summed (read_ledger_part l b))
+  pub no-ledger : (l : ℕ) → (Listed (held b).list l → ⊥) → ledger_sum l b ≡ Err NotListed
   pub few : (l : ℕ) → length (read_ledger_part l b) ≤ 4096
   pub small : (l : ℕ) → sum_of (read_ledger_part l b) ≤ greatest_sum
   -- The total is that of the listed ledgers. One that is listed twice counts twice.
-  pub total : run_total b ≡ totals.Total (total_of (run_sum b))
+  pub total : run_total b ≡ Ok (total_of (run_sum b))
   pub adds-up : parts_along (held b).list b ≡ run_sum b
 
 -- The buffers after a history, and what its journal tells.
 pub record SumsHistory (b : Buffers) (j : Journal) : Type 0 where
   -- They hold a log, so what is said of any log holds here.
   pub log : IsLog b
-  pub place : (i : ℕ) → i < length j.listed → ledger_at (i + 1) b ≡ listing.Ledger (ledger_number (get_or j.listed i 0))
-  pub no_place : (p : ℕ) → (p ≡ 0) ⊎ (length j.listed < p) → ledger_at p b ≡ listing.Refused NotListed
+  pub place : (i : ℕ) → i < length j.listed → ledger_at (i + 1) b ≡ Ok (ledger_number (get_or j.listed i 0))
+  pub no_place : (p : ℕ) → (p ≡ 0) ⊎ (length j.listed < p) → ledger_at p b ≡ Err NotListed
   -- A listed ledger's sum is that over the accepted writes into it.
   pub ledger : (l : ℕ) → Listed j.listed l
-      → ledger_sum l b ≡ sums.Sum (record { entries = length (of_ledger entry_ledger l j.accepted); sum = sum (values (of_ledger entry_ledger l j.accepted)) })
-  pub no-ledger : (l : ℕ) → (Listed j.listed l → ⊥) → ledger_sum l b ≡ sums.Refused NotListed
+      → ledger_sum l b ≡ Ok (record { entries = length (of_ledger entry_ledger l j.accepted); sum = sum (values (of_ledger entry_ledger l j.accepted)) })
+  pub no-ledger : (l : ℕ) → (Listed j.listed l → ⊥) → ledger_sum l b ≡ Err NotListed
   -- The total is the sum over the accepted writes, whatever the handovers; the ledgers' sums add up to it.
-  pub total : run_total b ≡ totals.Total (total_of (sum (values j.accepted)))
+  pub total : run_total b ≡ Ok (total_of (sum (values j.accepted)))
   pub adds-up : writes_along j.listed j.accepted ≡ sum (values j.accepted)
   pub bounded : sum (values j.accepted) ≤ greatest_sum
 

@@ -1,5 +1,5 @@
 -- The promise of the totals holds.
-use Rattle.std.specs.Prelude.{ℕ, suc, ◌+◌, ◌<◌, ◌≤◌, ◌≡◌, ◌⊎◌, length, get_or, eqb}
+use Rattle.std.specs.Prelude.{ℕ, suc, ◌+◌, ◌<◌, ◌≤◌, ◌≡◌, ◌⊎◌, length, get_or, eqb, Ok, Err}
 use native.Mathlib.Omega.{arith}
 use Rattle.std.proofs.Common.{add-one, sym, subst, ◌∙◌}
 use Rattle.std.proofs.Math.Path.{refl, ap}
@@ -13,7 +13,6 @@ use Rattle.records.specs.Words.{ledger_number}
 use Rattle.chain.specs.declared.answer.Refusal.TheVariants.{NotListed}
 use Rattle.chain.specs.declared.answer.Answer.{Answer}
 use Rattle.chain.specs.declared.answer.Answer.TheVariants.{Done, WasClosed, Behind, Written, Refused}
-use Rattle.chain.specs.declared.answer.PlaceAnswer.TheVariants as listing
 use Rattle.chain.specs.Answers.{is_refused, place_number}
 use Rattle.chain.specs.Log.{place, of_ledger, along_list, entry_ledger}
 use Rattle.chain.specs.Steps.{Step}
@@ -24,8 +23,6 @@ use Rattle.chain.specs.LogPromise.{after, told, Listed, Small, ShowsHistory}
 use Rattle.chain.proofs.LogTheorem.{refusals-change-nothing, accepted-leaves-log, whole-history}
 use Rattle.chain.proofs.Laws.Formed.{capacity-most}
 use Rattle.chain.proofs.Laws.Values.{sum_bound, sum-append, values-cleared, stored-values, chain-values}
-use Rattle.totals.specs.declared.answer.SumAnswer.TheVariants as sums
-use Rattle.totals.specs.declared.answer.TotalAnswer.TheVariants as totals
 use Rattle.totals.specs.Totals.{summed, ledger_sum, sum_number, run_sum, total_of, run_total, total_number}
 use Rattle.totals.specs.SumLaws.{part-within}
 use Rattle.totals.specs.TotalsPromise.{greatest_sum, parts_along, writes_along, SumsLog, SumsHistory, TotalsShowHistory}
@@ -55,29 +52,29 @@ module _ (b : Buffers) (i : IsLog b) where
   abbrev unlisted : ℕ → Test
   unlisted l = every (λ _ _ k. differ k l) (held b).list
 
-  at_place : (k : ℕ) → k < length (held b).list → ledger_at (k + 1) b ≡ listing.Ledger (ledger_number (get_or (held b).list k 0))
+  at_place : (k : ℕ) → k < length (held b).list → ledger_at (k + 1) b ≡ Ok (ledger_number (get_or (held b).list k 0))
   unfolding ledger_at
   at_place k h =
-      passed_first (read_place_checks (k + 1) b) listing.Refused (listing.Ledger (ledger_number (place (held b).list (k + 1))))
+      passed_first (read_place_checks (k + 1) b) Err (Ok (ledger_number (place (held b).list (k + 1))))
       ((i.state, i.capacity), (i.words, (((λ q. omega arith), omega arith), tt)))
-      ∙ ap (λ (n : ℕ). listing.Ledger (ledger_number n)) (place-next (held b).list k)
+      ∙ ap (λ (n : ℕ). Ok (ledger_number n)) (place-next (held b).list k)
 
-  at-no-place : (p : ℕ) → (p ≡ 0) ⊎ (length (held b).list < p) → ledger_at p b ≡ listing.Refused NotListed
+  at-no-place : (p : ℕ) → (p ≡ 0) ⊎ (length (held b).list < p) → ledger_at p b ≡ Err NotListed
   unfolding ledger_at
   at-no-place p h =
-      first-after (log_checks b []) ((NotListed when no_place p) ∷ []) listing.Refused (listing.Ledger (ledger_number (place (held b).list p)))
+      first-after (log_checks b []) ((NotListed when no_place p) ∷ []) Err (Ok (ledger_number (place (held b).list p)))
       ((i.state, i.capacity), (i.words, tt))
       ∙ rw (holds-true (no_place p) h)
 
-  of-ledger : (l : ℕ) → Listed (held b).list l → ledger_sum l b ≡ sums.Sum (summed (read_ledger_part l b))
+  of-ledger : (l : ℕ) → Listed (held b).list l → ledger_sum l b ≡ Ok (summed (read_ledger_part l b))
   unfolding ledger_sum
-  of-ledger l h = passed_first (read_ledger_checks l b) sums.Refused (sums.Sum (summed (read_ledger_part l b)))
+  of-ledger l h = passed_first (read_ledger_checks l b) Err (Ok (summed (read_ledger_part l b)))
       ((i.state, i.capacity), (i.words, ((λ f. f h.0 h.1 h.2), tt)))
 
-  of-no-ledger : (l : ℕ) → (Listed (held b).list l → ⊥) → ledger_sum l b ≡ sums.Refused NotListed
+  of-no-ledger : (l : ℕ) → (Listed (held b).list l → ⊥) → ledger_sum l b ≡ Err NotListed
   unfolding ledger_sum
   of-no-ledger l h =
-      first-after (log_checks b []) ((NotListed when unlisted l) ∷ []) sums.Refused (sums.Sum (summed (read_ledger_part l b)))
+      first-after (log_checks b []) ((NotListed when unlisted l) ∷ []) Err (Ok (summed (read_ledger_part l b)))
       ((i.state, i.capacity), (i.words, tt))
       ∙ rw (holds-true (unlisted l) (λ k x e. h (k, x, e)))
 
@@ -101,7 +98,7 @@ module _ (b : Buffers) (i : IsLog b) where
     no-ledger = of-no-ledger;
     few = λ l. omega (arith, part-within b l, capacity-most (length b.entries) i.capacity);
     small = λ l. omega (arith, sum_bound (read_ledger_part l b), part-within b l, capacity-most (length b.entries) i.capacity);
-    total = passed_first (log_checks b []) totals.Refused (totals.Total (total_of (run_sum b))) ((i.state, i.capacity), (i.words, tt));
+    total = passed_first (log_checks b []) Err (Ok (total_of (run_sum b))) ((i.state, i.capacity), (i.words, tt));
     adds-up = parts-add-up;
   }
 
@@ -184,9 +181,9 @@ module _ (n : ℕ) (fresh : Buffers) (d : fresh_answer n fresh ≡ Done) (xs : L
     place = rw shows.listed at summed-log.place;
     no_place = rw shows.listed at summed-log.no_place;
     ledger = λ l h. summed-log.ledger l (rw (← shows.listed) at h)
-        ∙ (λ i. sums.Sum (record { entries = part_length b j.accepted small l (stored l h) i; sum = part-sum b j.accepted small l (stored l h) i }));
+        ∙ (λ i. Ok (record { entries = part_length b j.accepted small l (stored l h) i; sum = part-sum b j.accepted small l (stored l h) i }));
     no-ledger = rw shows.listed at summed-log.no-ledger;
-    total = summed-log.total ∙ ap (λ (k : ℕ). totals.Total (total_of k)) run-sum;
+    total = summed-log.total ∙ ap (λ (k : ℕ). Ok (total_of k)) run-sum;
     adds-up = sym (parts-are-writes b j.accepted small j.listed (λ i h. stored (get_or j.listed i 0) (i, h, refl)))
         ∙ ap (λ (ks : List ℕ). parts_along ks b) (sym shows.listed) ∙ summed-log.adds-up ∙ run-sum;
     bounded = bounded;
@@ -198,7 +195,7 @@ totals-show-history = record {
   log = sums-log;
   history = sums-history;
   exact = λ n. (omega arith, omega arith);
-  place-order = λ p b. record { in_order = refl; first_holds = first-map place_number (read_place_checks p b) listing.Refused _ };
-  sum-order = λ l b. record { in_order = refl; first_holds = first-map sum_number (read_ledger_checks l b) sums.Refused _ };
-  total-order = λ b. record { in_order = refl; first_holds = first-map total_number (log_checks b []) totals.Refused _ };
+  place-order = λ p b. record { in_order = refl; first_holds = first-map place_number (read_place_checks p b) Err _ };
+  sum-order = λ l b. record { in_order = refl; first_holds = first-map sum_number (read_ledger_checks l b) Err _ };
+  total-order = λ b. record { in_order = refl; first_holds = first-map total_number (log_checks b []) Err _ };
 }

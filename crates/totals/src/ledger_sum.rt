@@ -3,23 +3,22 @@ ghost use Rattle.std.specs.Prelude.{◌≡◌};
 ghost use Rattle.chain.specs.Operations.{buffers};
 ghost use Rattle.totals.specs.Totals.{ledger_sum};
 
-use crate::answer::{LedgerSum, SumAnswer};
-use chain::answer::{Answer, Verdict};
+use crate::answer::LedgerSum;
+use chain::answer::{Answer, Refusal};
 use records::numbers::LedgerNumber;
 
-pub fn ledger_sum(state: &[u64], entries: &[u64], ledger: LedgerNumber) -> SumAnswer
+pub fn ledger_sum(
+    state: &[u64],
+    entries: &[u64],
+    ledger: LedgerNumber,
+) -> Result<LedgerSum, Refusal>
     ensures { result ≡ ledger_sum ledger.0 (buffers state.now entries.now) }
 {
-    let v = readers::read_ledger::read_verdict(state, entries, ledger);
-    match v {
-        Verdict::Refuse(r) => SumAnswer::Refused(r),
-        Verdict::Pass => {
-            let part = readers::read_ledger::answered_part(state, entries, ledger, Answer::Done);
-            let sum = crate::sums::sum_of(part);
-            SumAnswer::Sum(LedgerSum {
-                entries: part.len() as u64,
-                sum,
-            })
-        }
-    }
+    readers::read_ledger::read_verdict(state, entries, ledger)?;
+    let part = readers::read_ledger::answered_part(state, entries, ledger, Answer::Done);
+    let sum = crate::sums::sum_of(part);
+    Ok(LedgerSum {
+        entries: part.len() as u64,
+        sum,
+    })
 }

@@ -10,11 +10,5 @@ pub fn sum_of(words: &[u64]) -> u64
     requires { length words.now ≤ large_capacity }
     ensures { result ≡ sum_of words.now }
 {
-    let mut sum: u64 = 0;
-    let mut i = 0;
-    while i < words.len() {
-        sum += words[i] % CLIENT_UNIT;
-        i += 1;
-    }
-    sum
+    words.iter().map(|w| w % CLIENT_UNIT).sum()
 }

@@ -1,10 +1,7 @@
-use Rattle.std.proofs.Common.{◌-◌, ◌≤◌}
+use Rattle.readers.specs.Along.{parts, chain_parts}
 use Rattle.totals.specs.Carried.{Carried}
 use Rattle.totals.proofs.exact.sum_along.Given as goal
 
-abbrev pub invariant-loop-i : goal.invariant-loop-i
-invariant-loop-i l =
-    (272 ≤ l.i) × (l.i ≤ l.end) × (l.near.0 ≤ l.count) × Carried l.state l.entries l.count l.i l.end l.ones l.parts
-
-abbrev pub decreases-loop-i : goal.decreases-loop-i
-decreases-loop-i l = l.end - l.i
+abbrev pub invariant-loop-part : goal.invariant-loop-part
+invariant-loop-part l =
+    Carried (parts l.part-iterator.places.now l.part-iterator.words.now) (chain_parts l.log.state.now l.log.entries.now l.log.head) l.ones l.parts
