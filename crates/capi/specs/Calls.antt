@@ -7,8 +7,7 @@ use Rattle.checks.specs.Checks.{Check, Outcome, stops, goes, outcome, first}
 use Rattle.chain.specs.declared.answer.Refusal.{Refusal}
 use Rattle.chain.specs.declared.answer.Answer.{Answer}
 use Rattle.chain.specs.declared.answer.Answer.TheVariants.{Done, Refused}
-use Rattle.chain.specs.declared.answer.ChainAnswer.{ChainAnswer}
-use Rattle.chain.specs.declared.answer.WindowAnswer.{WindowAnswer}
+use Rattle.chain.specs.Answered.{ChainAnswer, WindowAnswer}
 use Rattle.chain.specs.Answers.{answer_number, chain_number, chain_count, window_number, window_found, window_start}
 use Rattle.chain.specs.Rights.{all_rights}
 use Rattle.chain.specs.Steps.{Step}
@@ -24,10 +23,8 @@ use Rattle.plans.specs.Runs.{Foretells}
 use Rattle.chain.specs.NumberSizes.{NumbersBelow}
 use Rattle.chain.proofs.Laws.Numbers.{step-numbers}
 use Rattle.fresh.specs.Fresh.{FreshResult}
-use Rattle.sentences.specs.declared.answer.SentenceAnswer.{SentenceAnswer}
-use Rattle.sentences.specs.declared.answer.SentenceRead.{SentenceRead}
-use Rattle.sentences.specs.Sentences.{sentence_answer, sentence_text, sentence_number, sentence_length}
-use Rattle.sentences.specs.Read.{read_sentence, sentence_found, sentence_step, sentence_client, sentence_refusal}
+use Rattle.sentences.specs.Sentences.{SentenceAnswer, sentence_answer, sentence_text, sentence_number, sentence_length}
+use Rattle.sentences.specs.Read.{SentenceRead, read_sentence, sentence_found, sentence_step, sentence_client, sentence_refusal}
 use Rattle.readers.specs.Locate.{part_start, Locates}
 
 -- The number of this interface, the same as CINDROLF_VERSION in include/cindrolf.h.

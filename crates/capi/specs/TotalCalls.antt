@@ -1,11 +1,11 @@
 -- What the functions of the list and of the totals owe their callers, with the answer as one number and all others 0 on a refusal.
 use Rattle.std.specs.Prelude.{ℕ, ◌≡◌}
 use Rattle.std.proofs.Common.{ap, ◌∙◌}
-use Rattle.chain.specs.declared.answer.PlaceAnswer.{PlaceAnswer}
+use Rattle.chain.specs.Answered.{PlaceAnswer}
 use Rattle.chain.specs.Answers.{place_number, place_ledger}
 use Rattle.chain.specs.Operations.{Buffers, ledger_at}
-use Rattle.totals.specs.declared.answer.SumAnswer.{SumAnswer}
-use Rattle.totals.specs.declared.answer.TotalAnswer.{TotalAnswer}
+use Rattle.totals.specs.Totals.{SumAnswer}
+use Rattle.totals.specs.Totals.{TotalAnswer}
 use Rattle.totals.specs.Totals.{ledger_sum, sum_number, sum_entries, sum_parts, run_total, total_number, total_ones, total_parts, total_rounded}
 
 -- A list place: the ledger there.

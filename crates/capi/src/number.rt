@@ -1,10 +1,10 @@
 // An answer and an advice as one number, since no enum crosses the boundary.
-ghost use Rattle.std.specs.Prelude.{◌≡◌};
-ghost use Rattle.chain.specs.Answers.{answer_number, advice_number};
+ghost use Rattle.std.specs.Prelude.{◌≡◌, MatchResult};
+ghost use Rattle.chain.specs.Answers.{answer_number, advice_number, done, refused, refusal_number};
 ghost use Rattle.chain.specs.NumberSizes.{NumbersBelow};
 
-use chain::advice::Advice;
-use chain::answer::Answer;
+use chain::answer::{Answer, Refusal};
+use chain::kind::Kind;
 
 const REFUSED: u64 = 256;
 
@@ -12,6 +12,9 @@ const REFUSED: u64 = 256;
 const ENTRY: u64 = 1 << 32;
 
 const NUMBER_UNIT: u64 = 1 << 16;
+
+// The advice that there is no step to take.
+const NO_STEP: u64 = 15;
 
 pub fn answer_number(a: Answer) -> u64
     requires { NumbersBelow a }
@@ -21,26 +24,28 @@ pub fn answer_number(a: Answer) -> u64
         Answer::Done => 0,
         Answer::WasClosed => 1,
         Answer::Behind => 2,
-        Answer::Refused(r) => REFUSED + chain::answer::refusal_number(r),
+        Answer::Refused(r) => REFUSED + u64::from(r),
         Answer::Written(at) => ENTRY + (at.number.0 * NUMBER_UNIT + at.place.0),
     }
 }
 
-// A step is its place in the reference's order of steps.
-pub fn advice_number(a: Advice) -> u64
-    ensures { result ≡ advice_number a }
+// Whether an operation that answers more than a number was done, or its refusal.
+pub fn status<T>(r: &Result<T, Refusal>) -> u64
+    ensures { MatchResult r.now (λ _. result ≡ done) (λ why. result ≡ refused (refusal_number why)) }
 {
-    match a {
-        Advice::Refused(r) => REFUSED + chain::answer::refusal_number(r),
-        Advice::Become => 1,
-        Advice::Abdicate => 2,
-        Advice::Fetch => 3,
-        Advice::CloseLast => 4,
-        Advice::Finish => 5,
-        Advice::Create => 6,
-        Advice::Append => 7,
-        Advice::Write => 8,
-        Advice::CloseOwn => 9,
-        Advice::NoStep => 15,
+    match r {
+        Ok(_) => answer_number(Answer::Done),
+        Err(why) => answer_number(Answer::Refused(*why)),
+    }
+}
+
+// A step is its place in the reference's order of steps.
+pub fn advice_number(advice: Result<Option<Kind>, Refusal>) -> u64
+    ensures { result ≡ advice_number advice }
+{
+    match advice {
+        Ok(Some(kind)) => u64::from(kind),
+        Ok(None) => NO_STEP,
+        Err(r) => REFUSED + u64::from(r),
     }
 }

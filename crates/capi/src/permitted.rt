@@ -5,6 +5,7 @@ ghost use Rattle.chain.specs.Steps.{by};
 ghost use Rattle.dispatch.specs.Dispatch.{step_of};
 ghost use Rattle.capi.specs.Calls.{StepCall};
 
+use chain::kind::Kind;
 use dispatch::Step;
 
 pub fn take_numbered(state: &mut [u64], entries: &mut [u64], rights: &[u64], step: Step) -> u64
@@ -38,7 +39,7 @@ pub fn cindrolf_name_with(
     ensures { StepCall (by rights.now client kinds.name)
         (buffers state.old entries.old) result state.new entries.new }
 {
-    take_numbered(state, entries, rights, Step::Name(client))
+    take_numbered(state, entries, rights, Step::new(client, Kind::Name))
 }
 
 pub fn cindrolf_become_with(
@@ -50,7 +51,7 @@ pub fn cindrolf_become_with(
     ensures { StepCall (by rights.now client kinds.become)
         (buffers state.old entries.old) result state.new entries.new }
 {
-    take_numbered(state, entries, rights, Step::Become(client))
+    take_numbered(state, entries, rights, Step::new(client, Kind::Become))
 }
 
 pub fn cindrolf_abdicate_with(
@@ -62,7 +63,7 @@ pub fn cindrolf_abdicate_with(
     ensures { StepCall (by rights.now client kinds.abdicate)
         (buffers state.old entries.old) result state.new entries.new }
 {
-    take_numbered(state, entries, rights, Step::Abdicate(client))
+    take_numbered(state, entries, rights, Step::new(client, Kind::Abdicate))
 }
 
 pub fn cindrolf_fetch_with(
@@ -74,7 +75,7 @@ pub fn cindrolf_fetch_with(
     ensures { StepCall (by rights.now client kinds.fetch)
         (buffers state.old entries.old) result state.new entries.new }
 {
-    take_numbered(state, entries, rights, Step::Fetch(client))
+    take_numbered(state, entries, rights, Step::new(client, Kind::Fetch))
 }
 
 pub fn cindrolf_close_last_with(
@@ -86,7 +87,7 @@ pub fn cindrolf_close_last_with(
     ensures { StepCall (by rights.now client kinds.close_last)
         (buffers state.old entries.old) result state.new entries.new }
 {
-    take_numbered(state, entries, rights, Step::CloseLast(client))
+    take_numbered(state, entries, rights, Step::new(client, Kind::CloseLast))
 }
 
 pub fn cindrolf_finish_with(
@@ -98,7 +99,7 @@ pub fn cindrolf_finish_with(
     ensures { StepCall (by rights.now client kinds.finish)
         (buffers state.old entries.old) result state.new entries.new }
 {
-    take_numbered(state, entries, rights, Step::Finish(client))
+    take_numbered(state, entries, rights, Step::new(client, Kind::Finish))
 }
 
 pub fn cindrolf_create_with(
@@ -110,7 +111,7 @@ pub fn cindrolf_create_with(
     ensures { StepCall (by rights.now client kinds.create)
         (buffers state.old entries.old) result state.new entries.new }
 {
-    take_numbered(state, entries, rights, Step::Create(client))
+    take_numbered(state, entries, rights, Step::new(client, Kind::Create))
 }
 
 pub fn cindrolf_append_with(
@@ -122,7 +123,7 @@ pub fn cindrolf_append_with(
     ensures { StepCall (by rights.now client kinds.append)
         (buffers state.old entries.old) result state.new entries.new }
 {
-    take_numbered(state, entries, rights, Step::Append(client))
+    take_numbered(state, entries, rights, Step::new(client, Kind::Append))
 }
 
 pub fn cindrolf_write_with(
@@ -135,7 +136,7 @@ pub fn cindrolf_write_with(
     ensures { StepCall (by rights.now client (kinds.write (kinds.of_value value)))
         (buffers state.old entries.old) result state.new entries.new }
 {
-    take_numbered(state, entries, rights, Step::Write(client, value))
+    take_numbered(state, entries, rights, Step::write(client, value))
 }
 
 pub fn cindrolf_write_scores_with(
@@ -160,5 +161,5 @@ pub fn cindrolf_close_own_with(
     ensures { StepCall (by rights.now client kinds.close_own)
         (buffers state.old entries.old) result state.new entries.new }
 {
-    take_numbered(state, entries, rights, Step::CloseOwn(client))
+    take_numbered(state, entries, rights, Step::new(client, Kind::CloseOwn))
 }

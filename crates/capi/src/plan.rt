@@ -4,7 +4,7 @@ ghost use Rattle.plans.specs.Runs.{RunResult};
 ghost use Rattle.capi.specs.Calls.{ForecastCall};
 
 #[repr(C)]
-#[derive(Clone, Copy, Drop)]
+#[derive(Clone, Copy, Debug, PartialEq, Eq)]
 pub struct PlanCounts {
     pub entries: u64,
     pub ledgers: u64,

@@ -4,12 +4,12 @@ ghost use Rattle.chain.specs.Operations.{buffers};
 ghost use Rattle.capi.specs.Calls.{LedgerCall, ChainCall};
 ghost use Rattle.chain.specs.Answers.{chain_number, chain_count};
 
-use chain::answer::{Answer, ChainAnswer};
+use chain::answer::Refusal;
 use records::numbers::LedgerNumber;
 
 // Read ledger's answer, and its part: the index of the first word and the number of words, both 0 where it is empty.
 #[repr(C)]
-#[derive(Clone, Copy, Drop)]
+#[derive(Clone, Copy, Debug, PartialEq, Eq)]
 pub struct LedgerPart {
     pub answer: u64,
     pub start: u64,
@@ -18,25 +18,19 @@ pub struct LedgerPart {
 
 // Read chain's answer, and the number of words that it wrote, 0 on a refusal.
 #[repr(C)]
-#[derive(Clone, Copy, Drop)]
+#[derive(Clone, Copy, Debug, PartialEq, Eq)]
 pub struct ChainCount {
     pub answer: u64,
     pub count: u64,
 }
 
-pub fn chain_count(a: ChainAnswer) -> ChainCount
+pub fn chain_count(a: Result<u64, Refusal>) -> ChainCount
     ensures answer { result.answer ≡ chain_number a }
     ensures count { result.count ≡ chain_count a }
 {
-    match a {
-        ChainAnswer::Count(n) => ChainCount {
-            answer: crate::number::answer_number(Answer::Done),
-            count: n,
-        },
-        ChainAnswer::Refused(r) => ChainCount {
-            answer: crate::number::answer_number(Answer::Refused(r)),
-            count: 0,
-        },
+    ChainCount {
+        answer: crate::number::status(&a),
+        count: a.unwrap_or(0),
     }
 }
 

@@ -4,30 +4,24 @@ ghost use Rattle.sentences.specs.Sentences.{sentence_number, sentence_length};
 ghost use Rattle.sentences.specs.Read.{sentence_found, sentence_step, sentence_client, sentence_refusal};
 ghost use Rattle.capi.specs.Calls.{SentenceCall, ReadSentenceCall};
 
-use chain::answer::Answer;
-use sentences::answer::{SentenceAnswer, SentenceRead};
+use chain::answer::Refusal;
+use sentences::answer::SentenceNumbers;
 
 // The answer, done or a refusal; and how many bytes the sentence has, 0 on a refusal.
 #[repr(C)]
-#[derive(Clone, Copy, Drop)]
+#[derive(Clone, Copy, Debug, PartialEq, Eq)]
 pub struct SentenceBytes {
     pub answer: u64,
     pub length: u64,
 }
 
-fn sentence_bytes(a: SentenceAnswer) -> SentenceBytes
+fn sentence_bytes(a: Result<u64, Refusal>) -> SentenceBytes
     ensures answer { result.answer ≡ sentence_number a }
     ensures length { result.length ≡ sentence_length a }
 {
-    match a {
-        SentenceAnswer::Length(n) => SentenceBytes {
-            answer: crate::number::answer_number(Answer::Done),
-            length: n,
-        },
-        SentenceAnswer::Refused(r) => SentenceBytes {
-            answer: crate::number::answer_number(Answer::Refused(r)),
-            length: 0,
-        },
+    SentenceBytes {
+        answer: crate::number::status(&a),
+        length: a.unwrap_or(0),
     }
 }
 
@@ -40,7 +34,7 @@ pub fn cindrolf_sentence(step: u64, client: u64, refusal: u64, text: &mut [u8]) 
 
 // 1 where a text is exactly a sentence, with its step, its client and its refusal; each 0 where it is none.
 #[repr(C)]
-#[derive(Clone, Copy, Drop)]
+#[derive(Clone, Copy, Debug, PartialEq, Eq)]
 pub struct SentenceSaid {
     pub found: u64,
     pub step: u64,
@@ -48,25 +42,17 @@ pub struct SentenceSaid {
     pub refusal: u64,
 }
 
-fn sentence_said(a: SentenceRead) -> SentenceSaid
+fn sentence_said(a: Option<SentenceNumbers>) -> SentenceSaid
     ensures found { result.found ≡ sentence_found a }
     ensures step { result.step ≡ sentence_step a }
     ensures client { result.client ≡ sentence_client a }
     ensures refusal { result.refusal ≡ sentence_refusal a }
 {
-    match a {
-        SentenceRead::Says(n) => SentenceSaid {
-            found: 1,
-            step: n.step,
-            client: n.client,
-            refusal: n.refusal,
-        },
-        SentenceRead::NotSentence => SentenceSaid {
-            found: 0,
-            step: 0,
-            client: 0,
-            refusal: 0,
-        },
+    SentenceSaid {
+        found: u64::from(a.is_some()),
+        step: a.map_or(0, |n| n.step),
+        client: a.map_or(0, |n| n.client),
+        refusal: a.map_or(0, |n| n.refusal),
     }
 }
 

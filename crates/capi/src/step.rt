@@ -5,6 +5,7 @@ ghost use Rattle.chain.specs.Steps.{by};
 ghost use Rattle.dispatch.specs.Dispatch.{step_of};
 ghost use Rattle.capi.specs.Calls.{StepCall, all_of};
 
+use chain::kind::Kind;
 use dispatch::Step;
 
 fn take_with_all_rights(state: &mut [u64], entries: &mut [u64], step: Step) -> u64
@@ -20,63 +21,63 @@ pub fn cindrolf_name(state: &mut [u64], entries: &mut [u64], client: u64) -> u64
     ensures { StepCall (by (all_of state.old) client kinds.name)
         (buffers state.old entries.old) result state.new entries.new }
 {
-    take_with_all_rights(state, entries, Step::Name(client))
+    take_with_all_rights(state, entries, Step::new(client, Kind::Name))
 }
 
 pub fn cindrolf_become(state: &mut [u64], entries: &mut [u64], client: u64) -> u64
     ensures { StepCall (by (all_of state.old) client kinds.become)
         (buffers state.old entries.old) result state.new entries.new }
 {
-    take_with_all_rights(state, entries, Step::Become(client))
+    take_with_all_rights(state, entries, Step::new(client, Kind::Become))
 }
 
 pub fn cindrolf_abdicate(state: &mut [u64], entries: &mut [u64], client: u64) -> u64
     ensures { StepCall (by (all_of state.old) client kinds.abdicate)
         (buffers state.old entries.old) result state.new entries.new }
 {
-    take_with_all_rights(state, entries, Step::Abdicate(client))
+    take_with_all_rights(state, entries, Step::new(client, Kind::Abdicate))
 }
 
 pub fn cindrolf_fetch(state: &mut [u64], entries: &mut [u64], client: u64) -> u64
     ensures { StepCall (by (all_of state.old) client kinds.fetch)
         (buffers state.old entries.old) result state.new entries.new }
 {
-    take_with_all_rights(state, entries, Step::Fetch(client))
+    take_with_all_rights(state, entries, Step::new(client, Kind::Fetch))
 }
 
 pub fn cindrolf_close_last(state: &mut [u64], entries: &mut [u64], client: u64) -> u64
     ensures { StepCall (by (all_of state.old) client kinds.close_last)
         (buffers state.old entries.old) result state.new entries.new }
 {
-    take_with_all_rights(state, entries, Step::CloseLast(client))
+    take_with_all_rights(state, entries, Step::new(client, Kind::CloseLast))
 }
 
 pub fn cindrolf_finish(state: &mut [u64], entries: &mut [u64], client: u64) -> u64
     ensures { StepCall (by (all_of state.old) client kinds.finish)
         (buffers state.old entries.old) result state.new entries.new }
 {
-    take_with_all_rights(state, entries, Step::Finish(client))
+    take_with_all_rights(state, entries, Step::new(client, Kind::Finish))
 }
 
 pub fn cindrolf_create(state: &mut [u64], entries: &mut [u64], client: u64) -> u64
     ensures { StepCall (by (all_of state.old) client kinds.create)
         (buffers state.old entries.old) result state.new entries.new }
 {
-    take_with_all_rights(state, entries, Step::Create(client))
+    take_with_all_rights(state, entries, Step::new(client, Kind::Create))
 }
 
 pub fn cindrolf_append(state: &mut [u64], entries: &mut [u64], client: u64) -> u64
     ensures { StepCall (by (all_of state.old) client kinds.append)
         (buffers state.old entries.old) result state.new entries.new }
 {
-    take_with_all_rights(state, entries, Step::Append(client))
+    take_with_all_rights(state, entries, Step::new(client, Kind::Append))
 }
 
 pub fn cindrolf_write(state: &mut [u64], entries: &mut [u64], client: u64, value: u64) -> u64
     ensures { StepCall (by (all_of state.old) client (kinds.write (kinds.of_value value)))
         (buffers state.old entries.old) result state.new entries.new }
 {
-    take_with_all_rights(state, entries, Step::Write(client, value))
+    take_with_all_rights(state, entries, Step::write(client, value))
 }
 
 pub fn cindrolf_write_scores(
@@ -98,5 +99,5 @@ pub fn cindrolf_close_own(state: &mut [u64], entries: &mut [u64], client: u64) -
     ensures { StepCall (by (all_of state.old) client kinds.close_own)
         (buffers state.old entries.old) result state.new entries.new }
 {
-    take_with_all_rights(state, entries, Step::CloseOwn(client))
+    take_with_all_rights(state, entries, Step::new(client, Kind::CloseOwn))
 }

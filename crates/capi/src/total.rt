@@ -5,13 +5,14 @@ ghost use Rattle.capi.specs.TotalCalls.{PlaceCall, SumCall, TotalCall};
 ghost use Rattle.chain.specs.Answers.{place_number, place_ledger};
 ghost use Rattle.totals.specs.Totals.{sum_number, sum_entries, sum_parts, total_number, total_ones, total_parts, total_rounded};
 
-use chain::answer::{Answer, PlaceAnswer};
+use crate::number::status;
+use chain::answer::Refusal;
 use records::numbers::{LedgerNumber, ListPlace};
-use totals::answer::{SumAnswer, TotalAnswer};
+use totals::answer::{LedgerSum, RunTotal};
 
 // The answer, and the number of the ledger at a list place, 0 on a refusal.
 #[repr(C)]
-#[derive(Clone, Copy, Drop)]
+#[derive(Clone, Copy, Debug, PartialEq, Eq)]
 pub struct ListedLedger {
     pub answer: u64,
     pub ledger: u64,
@@ -19,7 +20,7 @@ pub struct ListedLedger {
 
 // The answer, and a ledger's entries and the sum of their values, 0 on a refusal.
 #[repr(C)]
-#[derive(Clone, Copy, Drop)]
+#[derive(Clone, Copy, Debug, PartialEq, Eq)]
 pub struct SummedLedger {
     pub answer: u64,
     pub entries: u64,
@@ -28,7 +29,7 @@ pub struct SummedLedger {
 
 // The answer, and the sum of the run, exact and rounded, 0 on a refusal.
 #[repr(C)]
-#[derive(Clone, Copy, Drop)]
+#[derive(Clone, Copy, Debug, PartialEq, Eq)]
 pub struct SummedRun {
     pub answer: u64,
     pub ones: u64,
@@ -36,60 +37,39 @@ pub struct SummedRun {
     pub rounded: u64,
 }
 
-fn listed_ledger(a: PlaceAnswer) -> ListedLedger
+fn listed_ledger(a: Result<LedgerNumber, Refusal>) -> ListedLedger
     ensures answer { result.answer ≡ place_number a }
     ensures ledger { result.ledger ≡ place_ledger a }
 {
-    match a {
-        PlaceAnswer::Ledger(l) => ListedLedger {
-            answer: crate::number::answer_number(Answer::Done),
-            ledger: l.0,
-        },
-        PlaceAnswer::Refused(r) => ListedLedger {
-            answer: crate::number::answer_number(Answer::Refused(r)),
-            ledger: 0,
-        },
+    ListedLedger {
+        answer: status(&a),
+        ledger: a.map_or(0, |l| l.0),
     }
 }
 
-fn summed_ledger(a: SumAnswer) -> SummedLedger
+fn summed_ledger(a: Result<LedgerSum, Refusal>) -> SummedLedger
     ensures answer { result.answer ≡ sum_number a }
     ensures entries { result.entries ≡ sum_entries a }
     ensures sum { result.sum ≡ sum_parts a }
 {
-    match a {
-        SumAnswer::Sum(s) => SummedLedger {
-            answer: crate::number::answer_number(Answer::Done),
-            entries: s.entries,
-            sum: s.sum,
-        },
-        SumAnswer::Refused(r) => SummedLedger {
-            answer: crate::number::answer_number(Answer::Refused(r)),
-            entries: 0,
-            sum: 0,
-        },
+    SummedLedger {
+        answer: status(&a),
+        entries: a.map_or(0, |s| s.entries),
+        sum: a.map_or(0, |s| s.sum),
     }
 }
 
-fn summed_run(a: TotalAnswer) -> SummedRun
+fn summed_run(a: Result<RunTotal, Refusal>) -> SummedRun
     ensures answer { result.answer ≡ total_number a }
     ensures ones { result.ones ≡ total_ones a }
     ensures parts { result.parts ≡ total_parts a }
     ensures rounded { result.rounded ≡ total_rounded a }
 {
-    match a {
-        TotalAnswer::Total(t) => SummedRun {
-            answer: crate::number::answer_number(Answer::Done),
-            ones: t.ones,
-            parts: t.parts,
-            rounded: t.rounded,
-        },
-        TotalAnswer::Refused(r) => SummedRun {
-            answer: crate::number::answer_number(Answer::Refused(r)),
-            ones: 0,
-            parts: 0,
-            rounded: 0,
-        },
+    SummedRun {
+        answer: status(&a),
+        ones: a.map_or(0, |t| t.ones),
+        parts: a.map_or(0, |t| t.parts),
+        rounded: a.map_or(0, |t| t.rounded),
     }
 }
 

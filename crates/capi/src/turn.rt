@@ -5,7 +5,7 @@ ghost use Rattle.capi.specs.SharingCalls.{DecideCall};
 
 // The phase that follows, the awaited id, 0 where none is awaited, and what is to be done.
 #[repr(C)]
-#[derive(Clone, Copy, Drop)]
+#[derive(Clone, Copy, Debug, PartialEq, Eq)]
 pub struct NextTurn {
     pub phase: u64,
     pub id: u64,
@@ -17,13 +17,11 @@ pub fn cindrolf_decide(phase: u64, id: u64, seen: u64, first: u64, second: u64) 
 {
     let before = turns::number::phase_of(phase, id);
     let sight = turns::number::seen_of(seen, first, second);
-    let turn = turns::decide(before, sight);
-    let next = turn.phase;
-    let act = turn.act;
+    let next = turns::decide(before, sight);
     NextTurn {
-        phase: turns::number::phase_number(next),
-        id: turns::number::phase_id(next),
-        act: turns::number::act_number(act),
+        phase: turns::number::phase_number(next.phase),
+        id: turns::number::phase_id(next.phase),
+        act: u64::from(next.act),
     }
 }
 

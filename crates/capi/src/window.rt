@@ -4,38 +4,28 @@ ghost use Rattle.chain.specs.Answers.{window_number, window_found, window_start}
 ghost use Rattle.chain.specs.Operations.{buffers};
 ghost use Rattle.capi.specs.Calls.{WindowCall};
 
-use chain::answer::{Answer, WindowAnswer};
+use chain::answer::Refusal;
+use records::numbers::ReadingPlace;
 
 // The answer, done or a refusal; 1 where a window was found; and where it starts in the reading, 0 where none was found.
 #[repr(C)]
-#[derive(Clone, Copy, Drop)]
+#[derive(Clone, Copy, Debug, PartialEq, Eq)]
 pub struct WindowFound {
     pub answer: u64,
     pub found: u64,
     pub start: u64,
 }
 
-fn window_found(a: WindowAnswer) -> WindowFound
+fn window_found(a: Result<Option<ReadingPlace>, Refusal>) -> WindowFound
     ensures answer { result.answer ≡ window_number a }
     ensures found { result.found ≡ window_found a }
     ensures start { result.start ≡ window_start a }
 {
-    match a {
-        WindowAnswer::None => WindowFound {
-            answer: crate::number::answer_number(Answer::Done),
-            found: 0,
-            start: 0,
-        },
-        WindowAnswer::Start(at) => WindowFound {
-            answer: crate::number::answer_number(Answer::Done),
-            found: 1,
-            start: at.0,
-        },
-        WindowAnswer::Refused(r) => WindowFound {
-            answer: crate::number::answer_number(Answer::Refused(r)),
-            found: 0,
-            start: 0,
-        },
+    let place = a.unwrap_or(None);
+    WindowFound {
+        answer: crate::number::status(&a),
+        found: u64::from(place.is_some()),
+        start: place.map_or(0, |at| at.0),
     }
 }
 
