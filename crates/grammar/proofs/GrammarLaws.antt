@@ -4,27 +4,24 @@ use Prim.Native.Char.{code}
 use native.Mathlib.Omega.{arith}
 use Rattle.std.proofs.Math.Nat.{sub-zero}
 use Rattle.std.proofs.Math.Numerals.{add-one}
-use Rattle.std.specs.Prelude.{◌≡◌, refl, get_or, take}
+use Rattle.std.specs.Prelude.{◌≡◌, refl, get_or, take, Option, Some, None}
 use mathlib.Core.List.{List, []}
 use Rattle.std.proofs.Math.ListN.{length, drop, drop_of_length-le, get_or-eq_default}
 use Rattle.std.proofs.Common.{length-drop, take_all}
 use borrow.Author.Tests.{ne_eqb}
-use Rattle.text.specs.declared.decimal.Numeral.{Numeral}
-use Rattle.text.specs.declared.decimal.Numeral.TheVariants.{Number, NotNumeral}
 use Rattle.text.specs.Decimal.{starts, numeral_of}
 use Rattle.text.specs.Find.{index_of}
-use Rattle.grammar.specs.declared.Request.TheVariants.{BadLine}
-use Rattle.grammar.specs.Grammar.{client_step, write_step, parse_write, parse_line}
+use Rattle.grammar.specs.Grammar.{Request, client_step, write_step, parse_write, parse_line}
 
 -- The part of a slice from n on is all that is left.
 rest : (n : ℕ) (bs : List ℕ) → take (length bs - n) (drop n bs) ≡ drop n bs
 rest n bs = take_all (length bs - n) (drop n bs) (omega (arith, length-drop n bs))
 
-no_value : (client : Numeral) → BadLine ≡ write_step client NotNumeral
-no_value (Number c) = refl
-no_value NotNumeral = refl
+no_value : (client : Option ℕ) → ◌≡◌ {A = Request} None (write_step client None)
+no_value (Some c) = refl
+no_value None = refl
 
-nothing : numeral_of [] ≡ NotNumeral
+nothing : numeral_of [] ≡ None
 unfolding numeral_of starts
 nothing = refl
 
@@ -32,23 +29,23 @@ module _ (bs : List ℕ) (space : ℕ) (found : space ≡ 0 + index_of (code " "
   first : index_of (code " ") bs ≡ space
   first = omega arith
 
-  pub write-no-space : space ≡ length bs → BadLine ≡ parse_write bs
+  pub write-no-space : space ≡ length bs → ◌≡◌ {A = Request} None (parse_write bs)
   unfolding parse_write
   write-no-space end =
       let none : drop (suc space) bs ≡ [] = drop_of_length-le bs {i = suc space} (omega arith) in
       rw (first, none, nothing) (no_value (numeral_of (take space bs)))
 
-  pub write-parts : (client value : Numeral) → client ≡ numeral_of (take (space - 0) bs)
+  pub write-parts : (client value : Option ℕ) → client ≡ numeral_of (take (space - 0) bs)
       → value ≡ numeral_of (take (length bs - (space + 1)) (drop (space + 1) bs)) → write_step client value ≡ parse_write bs
   unfolding parse_write
   write-parts client value c v = rw (c, v, sub-zero space, rest (space + 1) bs, add-one space, first)
 
 module _ (bs : List ℕ) where
-  pub line-short : length bs < 2 → BadLine ≡ parse_line bs
+  pub line-short : length bs < 2 → ◌≡◌ {A = Request} None (parse_line bs)
   unfolding parse_line
   line-short l = let m : length bs ≤ 1 = omega arith in rw (get_or-eq_default bs 0 m)
 
-  pub line-no-space : (get_or bs 1 0 ≡ code " " → ⊥) → BadLine ≡ parse_line bs
+  pub line-no-space : (get_or bs 1 0 ≡ code " " → ⊥) → ◌≡◌ {A = Request} None (parse_line bs)
   unfolding parse_line
   line-no-space n = rw (ne_eqb (get_or bs 1 0) (code " ") n)
 
@@ -57,7 +54,7 @@ module _ (bs : List ℕ) where
     unfolding parse_line
     line_write w = rw (space, w, rest 2 bs)
 
-    pub line-client : (get_or bs 0 0 ≡ code "W" → ⊥) → (client : Numeral) → client ≡ numeral_of (take (length bs - 2) (drop 2 bs))
+    pub line-client : (get_or bs 0 0 ≡ code "W" → ⊥) → (client : Option ℕ) → client ≡ numeral_of (take (length bs - 2) (drop 2 bs))
         → client_step (get_or bs 0 0) client ≡ parse_line bs
     unfolding parse_line
     line-client n client c = rw (space, ne_eqb (get_or bs 0 0) (code "W") n, c, rest 2 bs)

@@ -1,13 +1,12 @@
 -- The words of the session: an answer, a numbered line, the chain.
-use Rattle.std.specs.Prelude.{ℕ, ◌/◌, ◌%◌, ◌^◌, List, [], ◌∷◌, ◌++◌}
+use Rattle.std.specs.Prelude.{ℕ, ◌/◌, ◌%◌, ◌^◌, List, [], ◌∷◌, ◌++◌, Some, None}
 use Rattle.text.specs.Bytes.{bytes}
 use Rattle.text.specs.Decimal.{decimal}
 use Rattle.chain.specs.declared.answer.Position.{Position}
 use Rattle.chain.specs.declared.answer.Answer.{Answer}
 use Rattle.chain.specs.declared.answer.Answer.TheVariants.{Done, WasClosed, Behind, Written, Refused}
 use Rattle.chain.specs.Answers.{refusal_number}
-use Rattle.requests.specs.declared.line.Reply.{Reply}
-use Rattle.requests.specs.declared.line.Reply.TheVariants.{Answered, NoStep}
+use Rattle.requests.specs.Requests.{Reply}
 
 abbrev pub position_text : Position → List ℕ
 position_text p = (bytes "entry " ++ decimal p.number.0) ++ (bytes " place " ++ decimal p.place.0)
@@ -20,8 +19,8 @@ answer_text (Written p) = position_text p
 answer_text (Refused r) = bytes "ref " ++ decimal (refusal_number r)
 
 abbrev pub reply_text : Reply → List ℕ
-reply_text (Answered a) = answer_text a
-reply_text NoStep = bytes "bad line"
+reply_text (Some a) = answer_text a
+reply_text None = bytes "bad line"
 
 unfoldable pub reply_line : ℕ → List ℕ → List ℕ
 reply_line number reply = decimal number ++ (bytes " " ++ (reply ++ bytes "\n"))

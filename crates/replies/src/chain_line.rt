@@ -1,37 +1,39 @@
 // The last line: the chain, with client and value of each entry.
+ghost use Rattle.std.specs.Prelude.{◌≡◌};
 ghost use Rattle.text.specs.Puts.{Puts, Room};
 ghost use Rattle.replies.specs.Replies.{entry_text, entries_text, chain_line};
 
 use records::entry::CLIENT_UNIT;
+use text::writer::Writer;
 
-fn put_entry(text: &mut [u8], at: usize, word: u64) -> usize
-    requires { Room text.old at (entry_text word) }
-    ensures { Puts text.old at (entry_text word) text.new result }
+fn put_entry(to: &mut Writer, word: u64)
+    requires { Room to.old.text.now to.old.at (entry_text word) }
+    ensures puts { Puts to.old.text.now to.old.at (entry_text word) to.new.text.now to.new.at }
+    ensures same_text { to.new.text.ghost_name ≡ to.old.text.ghost_name }
 {
-    let e = text::phrase::put_byte(text, at, b' ');
-    let f = text::decimal::put_decimal(text, e, word / CLIENT_UNIT);
-    let g = text::phrase::put_byte(text, f, b':');
-    text::decimal::put_decimal(text, g, word % CLIENT_UNIT)
+    let (client, value) = (word / CLIENT_UNIT, word % CLIENT_UNIT);
+    to.put_byte(b' ');
+    to.put_decimal(client);
+    to.put_byte(b':');
+    to.put_decimal(value);
 }
 
-fn put_entries(text: &mut [u8], at: usize, words: &[u64]) -> usize
-    requires { Room text.old at (entries_text words.now) }
-    ensures { Puts text.old at (entries_text words.now) text.new result }
+fn put_entries(to: &mut Writer, words: &[u64])
+    requires { Room to.old.text.now to.old.at (entries_text words.now) }
+    ensures puts { Puts to.old.text.now to.old.at (entries_text words.now) to.new.text.now to.new.at }
+    ensures same_text { to.new.text.ghost_name ≡ to.old.text.ghost_name }
 {
-    let mut e = at;
-    let mut i = 0;
-    while i < words.len() {
-        e = put_entry(text, e, words[i]);
-        i += 1;
+    for &word in words {
+        put_entry(to, word);
     }
-    e
 }
 
-pub fn put_chain_line(text: &mut [u8], at: usize, words: &[u64]) -> usize
-    requires { Room text.old at (chain_line words.now) }
-    ensures { Puts text.old at (chain_line words.now) text.new result }
+pub fn put_chain_line(to: &mut Writer, words: &[u64])
+    requires { Room to.old.text.now to.old.at (chain_line words.now) }
+    ensures puts { Puts to.old.text.now to.old.at (chain_line words.now) to.new.text.now to.new.at }
+    ensures same_text { to.new.text.ghost_name ≡ to.old.text.ghost_name }
 {
-    let e = text::phrase::put_phrase(text, at, b"chain");
-    let f = put_entries(text, e, words);
-    text::phrase::put_byte(text, f, b'\n')
+    to.put_phrase(b"chain");
+    put_entries(to, words);
+    to.put_byte(b'\n');
 }

@@ -1,51 +1,52 @@
 // A numbered line: what a step answered, or that the line was bad.
+ghost use Rattle.std.specs.Prelude.{◌≡◌};
 ghost use Rattle.text.specs.Puts.{Puts, Room};
 ghost use Rattle.replies.specs.Replies.{position_text, answer_text, reply_text, reply_line};
 
 use chain::answer::{Answer, Position};
-use requests::line::Reply;
-use text::decimal::put_counted;
+use text::writer::Writer;
 
-fn put_position(text: &mut [u8], at: usize, p: Position) -> usize
-    requires { Room text.old at (position_text p) }
-    ensures { Puts text.old at (position_text p) text.new result }
+fn put_position(to: &mut Writer, p: Position)
+    requires { Room to.old.text.now to.old.at (position_text p) }
+    ensures puts { Puts to.old.text.now to.old.at (position_text p) to.new.text.now to.new.at }
+    ensures same_text { to.new.text.ghost_name ≡ to.old.text.ghost_name }
 {
-    let e = put_counted(text, at, b"entry ", p.number.0);
-    put_counted(text, e, b" place ", p.place.0)
+    to.put_counted(b"entry ", p.number.0);
+    to.put_counted(b" place ", p.place.0);
 }
 
-fn put_answer(text: &mut [u8], at: usize, answer: Answer) -> usize
-    requires { Room text.old at (answer_text answer) }
-    ensures { Puts text.old at (answer_text answer) text.new result }
+fn put_answer(to: &mut Writer, answer: Answer)
+    requires { Room to.old.text.now to.old.at (answer_text answer) }
+    ensures puts { Puts to.old.text.now to.old.at (answer_text answer) to.new.text.now to.new.at }
+    ensures same_text { to.new.text.ghost_name ≡ to.old.text.ghost_name }
 {
     match answer {
-        Answer::Done => text::phrase::put_phrase(text, at, b"ok"),
-        Answer::WasClosed => text::phrase::put_phrase(text, at, b"was"),
-        Answer::Behind => text::phrase::put_phrase(text, at, b"behind"),
-        Answer::Written(p) => put_position(text, at, p),
-        Answer::Refused(r) => {
-            let n = chain::answer::refusal_number(r);
-            put_counted(text, at, b"ref ", n)
-        }
+        Answer::Done => to.put_phrase(b"ok"),
+        Answer::WasClosed => to.put_phrase(b"was"),
+        Answer::Behind => to.put_phrase(b"behind"),
+        Answer::Written(p) => put_position(to, p),
+        Answer::Refused(r) => to.put_counted(b"ref ", u64::from(r)),
     }
 }
 
-fn put_reply(text: &mut [u8], at: usize, reply: Reply) -> usize
-    requires { Room text.old at (reply_text reply) }
-    ensures { Puts text.old at (reply_text reply) text.new result }
+fn put_reply(to: &mut Writer, reply: Option<Answer>)
+    requires { Room to.old.text.now to.old.at (reply_text reply) }
+    ensures puts { Puts to.old.text.now to.old.at (reply_text reply) to.new.text.now to.new.at }
+    ensures same_text { to.new.text.ghost_name ≡ to.old.text.ghost_name }
 {
     match reply {
-        Reply::Answered(a) => put_answer(text, at, a),
-        Reply::NoStep => text::phrase::put_phrase(text, at, b"bad line"),
+        Some(a) => put_answer(to, a),
+        None => to.put_phrase(b"bad line"),
     }
 }
 
-pub fn put_reply_line(text: &mut [u8], at: usize, number: u64, reply: Reply) -> usize
-    requires { Room text.old at (reply_line number (reply_text reply)) }
-    ensures { Puts text.old at (reply_line number (reply_text reply)) text.new result }
+pub fn put_reply_line(to: &mut Writer, number: u64, reply: Option<Answer>)
+    requires { Room to.old.text.now to.old.at (reply_line number (reply_text reply)) }
+    ensures puts { Puts to.old.text.now to.old.at (reply_line number (reply_text reply)) to.new.text.now to.new.at }
+    ensures same_text { to.new.text.ghost_name ≡ to.old.text.ghost_name }
 {
-    let e = text::decimal::put_decimal(text, at, number);
-    let f = text::phrase::put_byte(text, e, b' ');
-    let g = put_reply(text, f, reply);
-    text::phrase::put_byte(text, g, b'\n')
+    to.put_decimal(number);
+    to.put_byte(b' ');
+    put_reply(to, reply);
+    to.put_byte(b'\n');
 }

@@ -1,9 +1,7 @@
 -- The first line of an input, and its client count.
-use Rattle.std.specs.Prelude.{ℕ, suc, ◌<◌, ◌≤◌, ◌≡◌, refl, true, List, [], ◌∷◌, ◌++◌, length, take, drop, eqb, leb, ltb}
-use Rattle.std.proofs.Common.{arith, ap, ◌∙◌, le-leb, leb-true, ne_eqb, eqb-true, ltb-true}
+use Rattle.std.specs.Prelude.{ℕ, suc, ◌&&◌, ◌<◌, ◌≤◌, ◌≡◌, refl, true, List, [], ◌∷◌, ◌++◌, length, take, drop, eqb, leb, ltb, Option, Some, None}
+use Rattle.std.proofs.Common.{arith, ap, ◌∙◌, le-leb, leb-true, lt-ltb, ne_eqb, eqb-true, ltb-true}
 use Rattle.std.proofs.Math.Bool.{and-eq-true_iff}
-use Rattle.text.specs.declared.decimal.Numeral.{Numeral}
-use Rattle.text.specs.declared.decimal.Numeral.TheVariants.{Number, NotNumeral}
 use Rattle.text.specs.Find.{index_of}
 use Rattle.text.specs.Decimal.{decimal, numeral_of, is_digit, all_digits}
 use Rattle.text.specs.DecimalLaws.{digit-range, parse-print, print-parse}
@@ -16,13 +14,29 @@ use Rattle.requests.specs.Opening.{count_of, client_count}
 abbrev pub first_line : ℕ → List ℕ
 first_line n = decimal n ++ (10 ∷ [])
 
-count-few : (m : Numeral) → count_of m ≤ client_limit
-count-few (Number n) = by_bool (leb n 16) (λ t. rw t (leb-true n 16 t)) (λ t. rw t (omega arith))
-count-few NotNumeral = omega arith
+-- A numeral that is a client count, and the count's range.
+record Counts (m : Option ℕ) (n : ℕ) : Type 0 where
+  is : m ≡ Some n
+  some : 1 ≤ n
+  few : n ≤ client_limit
 
-pub few-clients : (l : Line) → client_count l ≤ client_limit
+pub none-some : (n : ℕ) → ◌≡◌ {A = Option ℕ} None (Some n) → ⊥
+none-some n e = let z : ◌≡◌ {A = ℕ} 0 1 = cc in omega arith
+
+count-is : (m : Option ℕ) (n : ℕ) → count_of m ≡ Some n → Counts m n
+count-is (Some k) n e = by_bool (ltb 0 k && leb k 16)
+    (λ t. let told : ◌≡◌ {A = Option ℕ} (Some k) (Some n) = rw t at e in
+    let both = (and-eq-true_iff (ltb 0 k) (leb k 16)).0 t in
+    let same : k ≡ n = cc in
+    record { is = told; some = omega (arith, ltb-true 0 k both.0); few = omega (arith, leb-true k 16 both.1) })
+    (λ t. absurd (none-some n (rw t at e)))
+count-is None n e = absurd (none-some n e)
+
+pub few-clients : (l : Line) (n : ℕ) → client_count l ≡ Some n → (1 ≤ n) × (n ≤ client_limit)
 unfolding client_count
-few-clients l = by_bool l.ended (λ t. rw t (count-few (numeral_of l.content))) (λ t. rw t (omega arith))
+few-clients l n e = by_bool l.ended
+    (λ t. let c = count-is (numeral_of l.content) n (rw t at e) in (c.some, c.few))
+    (λ t. absurd (none-some n (rw t at e)))
 
 -- Digits and byte 10 are a first line.
 pub digits-line : (ds rest : List ℕ) → all_digits ds ≡ true → lines ((ds ++ (10 ∷ [])) ++ rest) ≡ line ds true ∷ lines rest
@@ -32,9 +46,12 @@ digits-line (d ∷ ds) rest h =
     let t = (and-eq-true_iff (is_digit d) (all_digits ds)).0 h in
     rw (ne_eqb d 10 (λ e. omega (arith, digit-range d t.0)), digits-line ds rest t.1)
 
-pub counted : (n : ℕ) → n ≤ client_limit → client_count (line (decimal n) true) ≡ n
+pub counted : (n : ℕ) → n ≤ client_limit → client_count (line (decimal n) true) ≡ count_of (Some n)
 unfolding client_count
-counted n few = rw (parse-print n (omega arith), le-leb n 16 few)
+counted n few = rw (parse-print n (omega arith))
+
+pub is-count : (n : ℕ) → 1 ≤ n → n ≤ client_limit → count_of (Some n) ≡ Some n
+is-count n some few = rw (lt-ltb 0 n some, le-leb n 16 few)
 
 -- An input as its first line and what follows, and a line with a client count as that count's numeral.
 abbrev pub first_of : List ℕ → Line
@@ -50,14 +67,10 @@ parted (b ∷ bs) h = by_bool (eqb b 10)
     (λ t. rw t (ap (λ (d : ℕ). d ∷ bs) (eqb-true b 10 t)))
     (λ t. rw t (ap (λ (ds : List ℕ). b ∷ ds) (parted bs (omega (arith, rw t at h)))))
 
-number_of : (m : Numeral) (k : ℕ) → count_of m ≡ suc k → m ≡ Number (suc k)
-number_of (Number n) k e = by_bool (leb n 16) (λ t. ap Number (rw t at e)) (λ t. absurd (omega (arith, rw t at e)))
-number_of NotNumeral k e = absurd (omega arith)
-
-pub count-first : (input : List ℕ) (k : ℕ) → client_count (first_of input) ≡ suc k → input ≡ first_line (suc k) ++ after_first input
+pub count-first : (input : List ℕ) (n : ℕ) → client_count (first_of input) ≡ Some n → input ≡ first_line n ++ after_first input
 unfolding client_count
-count-first input k e = by_bool (ltb (index_of 10 input) (length input))
+count-first input n e = by_bool (ltb (index_of 10 input) (length input))
     (λ t. parted input (ltb-true (index_of 10 input) (length input) t)
     ∙ ap (λ (ds : List ℕ). (ds ++ (10 ∷ [])) ++ after_first input)
-    (print-parse (take (index_of 10 input) input) (suc k) (number_of _ k (rw t at e))))
-    (λ t. absurd (omega (arith, rw t at e)))
+    (print-parse (take (index_of 10 input) input) n (count-is _ n (rw t at e)).is))
+    (λ t. absurd (none-some n (rw t at e)))

@@ -1,8 +1,7 @@
 -- How an input opens: too long, a bad start, or a client count and the lines after it.
-use Rattle.std.specs.Prelude.{ℕ, zero, suc, cond, List, [], ◌∷◌, length, leb, ltb}
+use Rattle.std.specs.Prelude.{ℕ, cond, ◌&&◌, List, [], ◌∷◌, length, leb, ltb, Option, Some, None}
+use Rattle.std.specs.Bool.{then_some}
 use Rattle.limits.specs.Limits.{client_limit, large_capacity, input_limit}
-use Rattle.text.specs.declared.decimal.Numeral.{Numeral}
-use Rattle.text.specs.declared.decimal.Numeral.TheVariants.{Number, NotNumeral}
 use Rattle.text.specs.Bytes.{bytes}
 use Rattle.text.specs.Decimal.{numeral_of}
 use Rattle.requests.specs.Lines.{Line, lines}
@@ -16,17 +15,18 @@ pub data Opening : Type 0 where
   bad_start : Opening
   begins : ℕ → List Line → Opening
 
--- The first line is a client count from 1 to 16. Zero stands for a line that is none.
-abbrev pub count_of : Numeral → ℕ
-count_of (Number n) = cond (leb n client_limit) n 0
-count_of NotNumeral = 0
+-- The first line is a client count from 1 to 16.
+abbrev pub count_of : Option ℕ → Option ℕ
+count_of (Some n) = then_some (ltb 0 n && leb n client_limit) n
+count_of None = None
 
-unfoldable pub client_count : Line → ℕ
-client_count l = cond l.ended (count_of (numeral_of l.content)) 0
+-- None is of a line that has none.
+unfoldable pub client_count : Line → Option ℕ
+client_count l = cond l.ended (count_of (numeral_of l.content)) None
 
-unfoldable pub started : ℕ → List Line → Opening
-started zero ls = bad_start
-started (suc n) ls = begins (suc n) ls
+unfoldable pub started : Option ℕ → List Line → Opening
+started None ls = bad_start
+started (Some n) ls = begins n ls
 
 unfoldable pub started_by : List Line → Opening
 started_by [] = bad_start

@@ -1,7 +1,7 @@
 -- Every input opens in one of three ways, and which one it is.
-use Prim.Native.Nat.{ℕ, zero, suc, ◌≤◌, ◌<◌}
+use Prim.Native.Nat.{ℕ, ◌≤◌, ◌<◌}
 use native.Mathlib.Omega.{arith}
-use Rattle.std.specs.Prelude.{◌≡◌, refl, length, ltb}
+use Rattle.std.specs.Prelude.{◌≡◌, refl, length, ltb, Option, Some, None}
 use Rattle.std.proofs.Common.{ap, ◌∙◌}
 use mathlib.Core.List.{List, [], ◌∷◌, ◌++◌}
 use borrow.Author.Tests.{lt-ltb, le-ltb, ltb-false}
@@ -12,20 +12,14 @@ use Rattle.limits.specs.Limits.{client_limit, input_limit}
 use Rattle.requests.specs.Lines.{Line, lines}
 use Rattle.requests.specs.LineLaws.{first-line, few-lines}
 use Rattle.requests.specs.Opening.{too_long, bad_start, begins, client_count, started, started_by, opening, printed}
-use Rattle.requests.specs.FirstLineLaws.{first_line, few-clients, digits-line, counted, first_of, after_first, count-first}
-
-begin : (k : ℕ) (ls : List Line) → 1 ≤ k → started k ls ≡ begins k ls
-unfolding started
-begin zero ls h = absurd (omega arith)
-begin (suc k) ls h = refl
+use Rattle.requests.specs.FirstLineLaws.{first_line, few-clients, digits-line, counted, is-count, first_of, after_first, count-first}
 
 pub opens-good : (n : ℕ) → 1 ≤ n → n ≤ client_limit → (rest : List ℕ) → length (first_line n ++ rest) ≤ input_limit
     → opening (first_line n ++ rest) ≡ begins n (lines rest)
-unfolding opening started_by
+unfolding opening started_by started
 opens-good n some few rest h = rw (le-ltb input_limit (length (first_line n ++ rest)) h)
     (ap started_by (digits-line (decimal n) rest (all-decimal n))
-    ∙ ap (λ (k : ℕ). started k (lines rest)) (counted n few)
-    ∙ begin n (lines rest) some)
+    ∙ ap (λ (m : Option ℕ). started m (lines rest)) (counted n few ∙ is-count n some few))
 
 no_start : (input : List ℕ) → ((n : ℕ) (rest : List ℕ) → 1 ≤ n → n ≤ client_limit → input ≡ first_line n ++ rest → ⊥)
     → started_by (lines input) ≡ bad_start
@@ -33,9 +27,10 @@ unfolding started_by started lines
 no_start [] none = refl
 no_start (b ∷ bs) none = ap started_by (first-line (b ∷ bs) (omega arith)) ∙ at (client_count (first_of (b ∷ bs))) refl
   where
-    at : (k : ℕ) → client_count (first_of (b ∷ bs)) ≡ k → started k (lines (after_first (b ∷ bs))) ≡ bad_start
-    at zero e = refl
-    at (suc k) e = absurd (none (suc k) (after_first (b ∷ bs)) (omega arith) (omega (arith, e, few-clients (first_of (b ∷ bs)))) (count-first (b ∷ bs) k e))
+    at : (m : Option ℕ) → client_count (first_of (b ∷ bs)) ≡ m → started m (lines (after_first (b ∷ bs))) ≡ bad_start
+    at None e = refl
+    at (Some n) e = let range = few-clients (first_of (b ∷ bs)) n e in
+        absurd (none n (after_first (b ∷ bs)) range.0 range.1 (count-first (b ∷ bs) n e))
 
 pub opens-bad : (input : List ℕ) → length input ≤ input_limit
     → ((n : ℕ) (rest : List ℕ) → 1 ≤ n → n ≤ client_limit → input ≡ first_line n ++ rest → ⊥) → opening input ≡ bad_start
@@ -49,10 +44,11 @@ opens-long input h = rw (lt-ltb input_limit (length input) h)
 -- A limit that every session's text keeps is kept by all that is printed.
 module _ (session_text : ℕ → List Line → List ℕ) (limit : ℕ) (some : 10 ≤ limit)
     (keeps : (n : ℕ) (ls : List Line) → 1 ≤ n → n ≤ client_limit → length ls ≤ input_limit → length (session_text n ls) ≤ limit) where
-  started-length : (n : ℕ) (ls : List Line) → n ≤ client_limit → length ls ≤ input_limit → length (printed session_text (started n ls)) ≤ limit
+  started-length : (m : Option ℕ) (ls : List Line) → ((n : ℕ) → m ≡ Some n → (1 ≤ n) × (n ≤ client_limit)) → length ls ≤ input_limit
+      → length (printed session_text (started m ls)) ≤ limit
   unfolding started
-  started-length zero ls few h = omega arith
-  started-length (suc n) ls few h = keeps (suc n) ls (omega arith) few h
+  started-length None ls range h = omega arith
+  started-length (Some n) ls range h = let r = range n refl in keeps n ls r.0 r.1 h
 
   started-by-length : (ls : List Line) → length ls ≤ input_limit → length (printed session_text (started_by ls)) ≤ limit
   unfolding started_by

@@ -2,14 +2,14 @@
 use Rattle.std.specs.Prelude.{ℕ, ◌+◌, ◌-◌, ◌<◌, ◌≤◌, ◌≡◌, List, [], ◌∷◌, length, take, drop, ltb}
 use Rattle.std.proofs.Common.{arith, sym, ap, ◌∙◌, drop_of_length-le}
 use Rattle.text.specs.Find.{index_of}
-use Rattle.chain.specs.Operations.{Buffers, after_steps}
-use Rattle.grammar.specs.declared.Request.{Request}
-use Rattle.requests.specs.declared.line.Reply.{Reply}
+use Rattle.chain.specs.Operations.{Buffers, buffers, after_steps}
+use Rattle.grammar.specs.Grammar.{Request}
 use Rattle.requests.specs.Lines.{Line, line, lines}
 use Rattle.requests.specs.LineLaws.{next-line}
-use Rattle.requests.specs.Requests.{request_of, reply_to, after_request, taken, request-steps, Answers}
+use Rattle.requests.specs.Requests.{Reply, request_of, reply_to, after_request, taken, request-steps, Answers}
 
--- The lines from a place on are the line taken and those from the next place on; its reply, and the buffers after it.
+-- The lines from a place on are the line taken and those from the next place on; its reply, and the buffers after it. The code keeps no
+-- place: `Lines::next` gives the line, and `line::take` its reply.
 pub record TakesLine (rights input : List ℕ) (from : ℕ) (b : Buffers) (reply : Reply) (next : ℕ) (b' : Buffers) : Type 0 where
   pub first : Line
   pub splits : lines (drop from input) ≡ first ∷ lines (drop next input)
@@ -37,6 +37,15 @@ unfolding lines
 no_lines input i past = ap lines (drop_of_length-le input past)
 
 -- Where the lines from a place on lead: the same before a line is taken and after it.
+pub steps_taken : {rights : List ℕ} {now later : List Line} {first : Line} {b : Buffers} {reply : Reply} {state entries : List ℕ} → now ≡ first ∷ later
+    → Answers rights (request_of first) b reply state entries
+    → after_steps (taken rights now) b ≡ after_steps (taken rights later) (buffers state entries)
+unfolding taken
+steps_taken {rights} {now} {later} {first} {b} splits a =
+    ap (λ (ls : List Line). after_steps (taken rights ls) b) splits
+    ∙ request-steps rights (request_of first) (taken rights later) b
+    ∙ ap (after_steps (taken rights later)) (sym a.after-it)
+
 pub steps-turn : {rights input : List ℕ} {i : ℕ} {b : Buffers} {reply : Reply} {next : ℕ} {b' : Buffers} → TakesLine rights input i b reply next b'
     → after_steps (taken rights (lines (drop i input))) b ≡ after_steps (taken rights (lines (drop next input))) b'
 unfolding taken
@@ -48,3 +57,7 @@ steps-turn {rights} {input} {i} {b} {reply} {next} {b'} t =
 pub steps-end : (rights input : List ℕ) (i : ℕ) (b : Buffers) → length input ≤ i → after_steps (taken rights (lines (drop i input))) b ≡ b
 unfolding taken after_steps
 steps-end rights input i b past = ap (λ (ls : List Line). after_steps (taken rights ls) b) (no_lines input i past)
+
+pub steps_none : (rights : List ℕ) {now : List Line} (b : Buffers) → now ≡ [] → after_steps (taken rights now) b ≡ b
+unfolding taken after_steps
+steps_none rights b e = ap (λ (ls : List Line). after_steps (taken rights ls) b) e

@@ -1,6 +1,7 @@
 // What a session's input asks for: how it starts, and each of its lines read as a request and taken as a step. It prints nothing.
 #![tactic(auto)]
 
+pub mod input;
 pub mod line;
 pub mod start;
 

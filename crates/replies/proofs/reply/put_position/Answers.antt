@@ -1,5 +1,11 @@
-use Rattle.text.specs.Puts.{puts_then}
+use Rattle.text.specs.Puts.{puts_then, room-first, room_next}
 use Rattle.replies.proofs.reply.put_position.Goals as goal
 
-pub returns : goal.returns
-returns c = puts_then c.put_counted-e.ensures c.put_counted.ensures
+pub put_counted-requires : goal.put_counted-requires
+put_counted-requires c = room-first _ _ c.requires
+
+pub put_counted-requires-2 : goal.put_counted-requires-2
+put_counted-requires-2 c = room_next c.put_counted.ensures.puts _ c.requires
+
+pub returns-clause-puts : goal.returns-clause-puts
+returns-clause-puts c = puts_then c.put_counted.ensures.puts c.put_counted-2.ensures.puts

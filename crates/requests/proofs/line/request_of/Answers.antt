@@ -1,10 +1,10 @@
 use Rattle.requests.specs.Requests.{request_of}
 use Rattle.requests.proofs.line.request_of.Goals as goal
 
-pub returns-then-ended : goal.returns-then-ended
+pub returns-then-line : goal.returns-then-line
 unfolding request_of
-returns-then-ended c = rw c.if-ended.true c.parse_line.ensures
+returns-then-line c = rw c.if-line.true c.parse_line.ensures
 
-pub returns-else-ended : goal.returns-else-ended
+pub returns-else-line : goal.returns-else-line
 unfolding request_of
-returns-else-ended c = rw c.if-ended.false
+returns-else-line c = rw c.if-line.false
