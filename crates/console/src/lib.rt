@@ -1,20 +1,19 @@
 // Reads a session's input, and writes its product.
 #![tactic(auto)]
 
-ghost use Rattle.std.specs.Prelude.{◌≡◌, ◌≢◌, ◌<◌, ◌≤◌, IfErr, IfOk, OnOk, length, take};
+ghost use Rattle.std.specs.Prelude.{◌≡◌, ◌≢◌, ℕ, ◌^◌, ◌<◌, ◌≤◌, IfErr, IfOk, OnOk, List, length, take};
+ghost use Rattle.std.specs.Fn.{FnOnceReturnsAtMut};
 ghost use Rattle.std.specs.IoError.{error_kind};
 ghost use Rattle.std.specs.Io.KnownBytes.{Appends, Consumes, IsAtEnd};
-ghost use Rattle.session.specs.Transcript.{transcript};
-ghost use Rattle.total.specs.Output.{output};
-ghost use Rattle.console.specs.Products.{WritesProduct, product_text};
+ghost use Rattle.console.specs.Products.{PutsWhole, WritesProduct, product_text};
 
 use limits::{INPUT_LIMIT, RUN_TOTAL_LIMIT, TRANSCRIPT_LIMIT};
 use std::io;
 use std::io::{ErrorKind, Read, Write};
-use text::lent::Printed;
+use text::lent::TextTooShort;
 
 // What is printed: the transcript of the session, or its run total.
-#[derive(Clone, Copy, Drop)]
+#[derive(Clone, Copy, Debug, PartialEq, Eq)]
 pub enum Product {
     Transcript,
     Total,
@@ -45,39 +44,36 @@ fn read_input<R: Read>(reader: &mut R, input: &mut [u8]) -> io::Result<usize>
     Err(ErrorKind::TimedOut.into())
 }
 
-// Bytes that a text is written over.
-fn blank<const N: usize>() -> [u8; N]
-    ensures { length result ≡ N }
+// Writes what is put into a text of N bytes, which are enough for it.
+fn print<const N: usize, W: Write, F>(writer: &mut W, put: F) -> io::Result<()>
+where
+    F: FnOnce(&mut [u8]) -> Result<usize, TextTooShort>,
+    requires small { N < 2 ^ 63 }
+    requires callable { F.IsAlwaysCallable put }
+    requires fits { (whole : List ℕ) × (length whole ≤ N) × PutsWhole (FnOnceReturnsAtMut F.FnOnce put) N whole }
+    ensures { (whole : List ℕ) → PutsWhole (FnOnceReturnsAtMut F.FnOnce put) N whole
+        → OnOk result (Appends (W.contents writer.old) (W.contents writer.new) whole) }
 {
-    [0; N]
-}
-
-fn print_transcript<W: Write>(writer: &mut W, input: &[u8]) -> io::Result<()>
-    ensures { OnOk result (Appends (W.contents writer.old) (W.contents writer.new) (transcript input.now)) }
-{
-    let mut text = blank::<TRANSCRIPT_LIMIT>();
-    match session::transcript(input, &mut text) {
-        Printed::Bytes(n) => writer.write_all(&text[..n]),
-        Printed::TextTooShort => unreachable!(),
+    let mut text = [0u8; N];
+    match put(&mut text) {
+        Ok(n) => writer.write_all(&text[..n]),
+        Err(_) => unreachable!(),
     }
 }
 
-fn print_total<W: Write>(writer: &mut W, input: &[u8]) -> io::Result<()>
-    ensures { OnOk result (Appends (W.contents writer.old) (W.contents writer.new) (output input.now)) }
-{
-    let mut text = [0u8; RUN_TOTAL_LIMIT];
-    match total::run_total(input, &mut text) {
-        Printed::Bytes(n) => writer.write_all(&text[..n]),
-        Printed::TextTooShort => unreachable!(),
-    }
-}
-
-fn print<W: Write>(writer: &mut W, product: Product, input: &[u8]) -> io::Result<()>
+// A switch, and no closure that `run` takes: the clause of `run` names the product, and says what is written of an input of any length.
+fn print_product<W: Write>(writer: &mut W, product: Product, input: &[u8]) -> io::Result<()>
     ensures { OnOk result (Appends (W.contents writer.old) (W.contents writer.new) (product_text product input.now)) }
 {
     match product {
-        Product::Transcript => print_transcript(writer, input),
-        Product::Total => print_total(writer, input),
+        Product::Transcript => print::<TRANSCRIPT_LIMIT, _, _>(
+            writer,
+            |text| session::transcript(input, text),
+        ),
+        Product::Total => print::<RUN_TOTAL_LIMIT, _, _>(
+            writer,
+            |text| total::run_total(input, text),
+        ),
     }
 }
 
@@ -87,5 +83,5 @@ pub fn run<R: Read, W: Write>(reader: &mut R, writer: &mut W, product: Product) 
 {
     let mut input = [0u8; INPUT_LIMIT + 1];
     let n = read_input(reader, &mut input)?;
-    print(writer, product, &input[..n])
+    print_product(writer, product, &input[..n])
 }

@@ -6,7 +6,7 @@ use std::env::{Env, FillError};
 use std::rt::Files;
 use std::{fs, io, str};
 
-// As long as any path.
+// As long as any path. The program uses no heap, so std writes an argument into a buffer of its caller.
 const NAME_LENGTH: usize = 4096;
 
 fn print_heading(rt: &impl Print, name: &[u8]) -> io::Result<()> {

@@ -1,5 +1,5 @@
 -- No transcript is longer than the limit.
-use Rattle.std.specs.Prelude.{ℕ, suc, ◌+◌, ◌*◌, ◌/◌, ◌%◌, ◌^◌, ◌<◌, ◌≤◌, ◌≡◌, refl, List, [], ◌∷◌, ◌++◌, map, length}
+use Rattle.std.specs.Prelude.{Some, None, ℕ, suc, ◌+◌, ◌*◌, ◌/◌, ◌%◌, ◌^◌, ◌<◌, ◌≤◌, ◌≡◌, refl, List, [], ◌∷◌, ◌++◌, map, length}
 use Rattle.std.proofs.Common.{arith, length-append}
 use Rattle.std.proofs.lemmas.List.{length-map}
 use Rattle.text.specs.Bytes.{bytes}
@@ -17,8 +17,7 @@ use Rattle.chain.specs.NumberSizes.{NumbersBelow}
 use Rattle.chain.proofs.Laws.Numbers.{step-numbers, refusal-range}
 use Rattle.chain.proofs.Laws.Readings.{read_all}
 use Rattle.dispatch.specs.Dispatch.{step_of}
-use Rattle.grammar.specs.declared.Request.{Request}
-use Rattle.grammar.specs.declared.Request.TheVariants.{Take, BadLine}
+use Rattle.grammar.specs.Grammar.{Request}
 use Rattle.requests.specs.Lines.{Line}
 use Rattle.requests.specs.Requests.{request_of, reply_to, after_request, taken, request-steps}
 use Rattle.requests.specs.Opening.{session_capacity}
@@ -45,8 +44,8 @@ answer-length (Refused r) h = omega (
 )
 
 reply-length : (rights : List ℕ) (r : Request) (b : Buffers) → length (reply_text (reply_to rights r b)) ≤ 21
-reply-length rights (Take x) b = answer-length (step_answer (step_of rights x) b) (step-numbers (step_of rights x) b)
-reply-length rights BadLine b = omega arith
+reply-length rights (Some x) b = answer-length (step_answer (step_of rights x) b) (step-numbers (step_of rights x) b)
+reply-length rights None b = omega arith
 
 -- A numbered line has at most 28 bytes: five digits, two separators and the reply.
 line-length : (number : ℕ) (reply : List ℕ) → number < 100000 → length reply ≤ 21 → length (reply_line number reply) ≤ 28

@@ -1,5 +1,5 @@
 -- The promise of a session holds.
-use Rattle.std.specs.Prelude.{ℕ, suc, ◌≤◌, ◌≡◌, refl, length}
+use Rattle.std.specs.Prelude.{Some, None, ℕ, suc, ◌≤◌, ◌≡◌, refl, length}
 use Rattle.std.proofs.Common.{sym, ◌∙◌}
 use Rattle.std.proofs.Math.Path.{ap}
 use mathlib.Core.List.{List, [], ◌∷◌, ◌++◌, map, append_assoc}
@@ -10,8 +10,7 @@ use Rattle.chain.specs.Rights.{all_rights}
 use Rattle.chain.specs.Operations.{Buffers, step_answer, after_step, after_steps, step_answers, after_fresh, chain_reading}
 use Rattle.chain.specs.LogPromise.{after, told}
 use Rattle.dispatch.specs.Dispatch.{step_of}
-use Rattle.grammar.specs.declared.Request.{Request}
-use Rattle.grammar.specs.declared.Request.TheVariants.{Take, BadLine}
+use Rattle.grammar.specs.Grammar.{Request}
 use Rattle.requests.specs.Lines.{Line, lines}
 use Rattle.requests.specs.Requests.{request_of, reply_to, after_request, requested, taken}
 use Rattle.requests.specs.Opening.{printed}
@@ -35,11 +34,11 @@ line-printed : (rights : List ℕ) (r : Request) (ls : List Line) (number : ℕ)
     → reply_line number (reply_text (reply_to rights r b)) ++ later ≡
     replies number (r ∷ map request_of ls) (step_answers (requested rights r ++ taken rights ls) b) ++ chain_line (chain_reading (after_steps (requested rights r ++ taken rights ls) b))
 unfolding replies step_answers after_steps
-line-printed rights (Take x) ls number b later e =
+line-printed rights (Some x) ls number b later e =
     let b' : Buffers = after_step (step_of rights x) b in
     put-before (reply_line number (answer_text (step_answer (step_of rights x) b))) (replies (suc number) (map request_of ls) (step_answers (taken rights ls) b'))
     (chain_line (chain_reading (after_steps (taken rights ls) b'))) later e
-line-printed rights BadLine ls number b later e =
+line-printed rights None ls number b later e =
     put-before (reply_line number (bytes "bad line")) (replies (suc number) (map request_of ls) (step_answers (taken rights ls) b))
     (chain_line (chain_reading (after_steps (taken rights ls) b))) later e
 

@@ -14,21 +14,21 @@ use Rattle.session.specs.Owed.{Ran, Reads}
 use Rattle.session.proofs.LengthLaws.{reads}
 
 module _ (n : ℕ) (some : 1 ≤ n) (few : n ≤ client_limit) where
-  module _ {rights : List ℕ} {ls : List Line} {b₁ b₂ : Buffers} {text text' : List ℕ} {at : ℕ} (all : rights ≡ all_rights n)
-      (is : b₁ ≡ fresh_buffers session_capacity n) (ran : Ran rights ls b₁ text b₂ text' at) where
-    r : Ran (all_rights n) ls b₁ text b₂ text' at
-    r = subst (λ (rs : List ℕ). Ran rs ls b₁ text b₂ text' at) all ran
+  module _ {rights : List ℕ} {ls : List Line} {b₁ b₂ : Buffers} {text text' : List ℕ} {from at : ℕ} (all : rights ≡ all_rights n)
+      (is : b₁ ≡ fresh_buffers session_capacity n) (ran : Ran rights ls b₁ text from b₂ text' at) where
+    r : Ran (all_rights n) ls b₁ text from b₂ text' at
+    r = subst (λ (rs : List ℕ). Ran rs ls b₁ text from b₂ text' at) all ran
 
     pub end_reads : (out : List ℕ) → session_capacity ≤ length out → Reads b₂ out
     end_reads out h = subst (λ (b : Buffers). Reads b out) (sym (r.steps ∙ ap (after_steps (taken (all_rights n) ls)) is)) (reads n some few (taken (all_rights n) ls) out h)
 
-    pub end-room : Room text 0 (session (all_rights n) 1 ls (fresh_buffers session_capacity n)) → Room text' at (chain_line (chain_reading b₂))
-    end-room h = left-room r.left (subst (λ (b : Buffers). Room text 0 (session (all_rights n) 1 ls b)) (sym is) h)
+    pub end-room : Room text from (session (all_rights n) 1 ls (fresh_buffers session_capacity n)) → Room text' at (chain_line (chain_reading b₂))
+    end-room h = left-room r.left (subst (λ (b : Buffers). Room text from (session (all_rights n) 1 ls b)) (sym is) h)
 
     pub end-puts : (after : List ℕ) (end : ℕ) → Puts text' at (chain_line (chain_reading b₂)) after end
-        → Puts text 0 (session (all_rights n) 1 ls (fresh_buffers session_capacity n)) after end
-    end-puts after end p = subst (λ (b : Buffers). Puts text 0 (session (all_rights n) 1 ls b) after end) is (left-last r.left p)
+        → Puts text from (session (all_rights n) 1 ls (fresh_buffers session_capacity n)) after end
+    end-puts after end p = subst (λ (b : Buffers). Puts text from (session (all_rights n) 1 ls b) after end) is (left-last r.left p)
 
-  pub fresh-room : (rights : List ℕ) (b : Buffers) (ls : List Line) (text : List ℕ) → rights ≡ all_rights n → b ≡ fresh_buffers session_capacity n → Room text 0 (session (all_rights n) 1 ls (fresh_buffers session_capacity n))
-      → Room text 0 (session rights 1 ls b)
-  fresh-room rights b ls text all e h = rw (all, e) h
+  pub fresh-room : (rights : List ℕ) (b : Buffers) (ls : List Line) (text : List ℕ) (from : ℕ) → rights ≡ all_rights n → b ≡ fresh_buffers session_capacity n → Room text from (session (all_rights n) 1 ls (fresh_buffers session_capacity n))
+      → Room text from (session rights 1 ls b)
+  fresh-room rights b ls text from all e h = rw (all, e) h

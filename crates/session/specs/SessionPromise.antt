@@ -1,5 +1,5 @@
 -- What a session promises: its transcript is the history of its steps. SessionTheorem proves it.
-use Rattle.std.specs.Prelude.{ℕ, suc, ◌<◌, ◌≤◌, ◌≡◌, List, [], ◌∷◌, ◌++◌, map, length}
+use Rattle.std.specs.Prelude.{Some, None, ℕ, suc, ◌<◌, ◌≤◌, ◌≡◌, List, [], ◌∷◌, ◌++◌, map, length}
 use Rattle.text.specs.Bytes.{bytes}
 use Rattle.text.specs.Decimal.{decimal}
 use Rattle.records.specs.declared.entry.Entry.{Entry}
@@ -8,8 +8,7 @@ use Rattle.chain.specs.declared.answer.Answer.TheVariants.{Done}
 use Rattle.chain.specs.Rights.{all_rights}
 use Rattle.chain.specs.Operations.{step_answers, fresh_answer, after_fresh}
 use Rattle.chain.specs.LogPromise.{after, told, ShowsHistory}
-use Rattle.grammar.specs.declared.Request.{Request}
-use Rattle.grammar.specs.declared.Request.TheVariants.{Take, BadLine}
+use Rattle.grammar.specs.Grammar.{Request}
 use Rattle.replies.specs.Replies.{answer_text, reply_line}
 use Rattle.requests.specs.Lines.{Line, lines}
 use Rattle.requests.specs.Requests.{request_of, taken}
@@ -20,9 +19,9 @@ use Rattle.session.specs.Transcript.{transcript}
 -- The reply lines, numbered from some number on. A line that is a step takes the next answer; a bad line takes none.
 unfoldable pub replies : ℕ → List Request → List Answer → List ℕ
 replies number [] answers = []
-replies number (BadLine ∷ rs) answers = reply_line number (bytes "bad line") ++ replies (suc number) rs answers
-replies number (Take x ∷ rs) [] = []
-replies number (Take x ∷ rs) (a ∷ answers) = reply_line number (answer_text a) ++ replies (suc number) rs answers
+replies number (None ∷ rs) answers = reply_line number (bytes "bad line") ++ replies (suc number) rs answers
+replies number (Some x ∷ rs) [] = []
+replies number (Some x ∷ rs) (a ∷ answers) = reply_line number (answer_text a) ++ replies (suc number) rs answers
 
 -- The chain line: each accepted write as client:value, after a space.
 unfoldable pub writes_text : List Entry → List ℕ

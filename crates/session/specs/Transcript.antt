@@ -1,6 +1,6 @@
 -- The whole transcript of a session: from the bytes of its input to the bytes that are printed.
-use Rattle.std.specs.Prelude.{ℕ, suc, List, [], ◌∷◌, ◌++◌}
-use Rattle.text.specs.declared.lent.Printed.{Printed}
+use Rattle.std.specs.Prelude.{ℕ, suc, List, [], ◌∷◌, ◌++◌, Result}
+use Rattle.text.specs.declared.lent.TextTooShort.{TextTooShort}
 use Rattle.text.specs.Lent.{lent_answer, lent_text}
 use Rattle.limits.specs.Limits.{transcript_limit}
 use Rattle.chain.specs.Rights.{all_rights}
@@ -24,7 +24,7 @@ unfoldable pub transcript : List ℕ → List ℕ
 transcript input = printed session_text (opening input)
 
 -- The transcript in a lent text. A text below the limit is refused, whatever the input; no transcript is longer (Lengths).
-abbrev pub transcript_answer : List ℕ → List ℕ → Printed
+abbrev pub transcript_answer : List ℕ → List ℕ → Result ℕ TextTooShort
 transcript_answer input text = lent_answer transcript_limit (transcript input) text
 
 abbrev pub transcript_text : List ℕ → List ℕ → List ℕ

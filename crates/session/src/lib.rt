@@ -9,16 +9,15 @@ ghost use Rattle.std.specs.Prelude.{◌≡◌};
 ghost use Rattle.session.specs.Transcript.{transcript_answer, transcript_text};
 
 use limits::TRANSCRIPT_LIMIT;
-use text::lent::Printed;
+use text::lent::TextTooShort;
 
 // Nothing is written before it is known that every transcript fits.
-pub fn transcript(input: &[u8], text: &mut [u8]) -> Printed
+pub fn transcript(input: &[u8], text: &mut [u8]) -> Result<usize, TextTooShort>
     ensures answer { result ≡ transcript_answer input.now text.old }
     ensures text { text.new ≡ transcript_text input.now text.old }
 {
     if text.len() < TRANSCRIPT_LIMIT {
-        return Printed::TextTooShort;
+        return Err(TextTooShort);
     }
-    let n = crate::start::put_transcript(input, text);
-    Printed::Bytes(n)
+    Ok(crate::start::put_transcript(input, text))
 }

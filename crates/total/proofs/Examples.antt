@@ -10,7 +10,7 @@ use Rattle.chain.specs.Buffers.{head, clients_in, ledgers_in, list_in, entries_i
 use Rattle.chain.specs.Rights.{right_in, all_rights}
 use Rattle.chain.specs.Operations.{read_ledger_part, chain_reading, cleared, fresh_buffers, after_steps, after_step, step_effect}
 use Rattle.chain.specs.Values.{sum}
-use Rattle.grammar.specs.Grammar.{parse_line, parse_write, letter_step, with_client}
+use Rattle.grammar.specs.Grammar.{parse_line, parse_write, letter_kind, with_client}
 use Rattle.totals.specs.Totals.{ledger_sum, run_sum, run_total}
 use Rattle.amounts.specs.Amounts.{padded, pointed, fixed}
 use Rattle.requests.specs.Lines.{lines, longer}
@@ -24,5 +24,5 @@ unended = refl
 
 example-total : output (bytes "3\nB 0\nF 0\nC 0\nP 0\nW 0 7\nN 1\nB 1\nF 1\nL 1\nK 1\nW 0 8\nC 1\nP 1\nW 1 9\nO 0\n")
     ≡ bytes "ledger 1 entries 1 sum 0.000000000007\nledger 2 entries 1 sum 0.000000000009\ntotal 0.000000000016\nrounded 0.000\n"
-unfolding output opening started_by lines longer started client_count taken request_of index_of parse_line parse_write letter_step with_client numeral_of starts all_digits is_digit value decimal digits sum ledger_line total_line rounded_line total_lines ledger_lines log_text ledger_sum run_sum run_total padded pointed fixed read_ledger_part chain_reading cleared fresh_buffers after_steps after_step step_effect right_in all_rights every_from pack_head pack_client pack_ledger pack_place pack_entry unpack_head unpack_client unpack_ledger unpack_place unpack_entry put place of_ledger along_list newest_from head clients_in ledgers_in list_in entries_in
+unfolding output opening started_by lines longer started client_count taken request_of index_of parse_line parse_write letter_kind with_client numeral_of starts all_digits is_digit value decimal digits sum ledger_line total_line rounded_line total_lines ledger_lines log_text ledger_sum run_sum run_total padded pointed fixed read_ledger_part chain_reading cleared fresh_buffers after_steps after_step step_effect right_in all_rights every_from pack_head pack_client pack_ledger pack_place pack_entry unpack_head unpack_client unpack_ledger unpack_place unpack_entry put place of_ledger along_list newest_from head clients_in ledgers_in list_in entries_in
 example-total = refl

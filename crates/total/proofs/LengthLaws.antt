@@ -1,7 +1,7 @@
 -- No output is longer than the limit.
 use Prim.Native.Nat.{ℕ, ◌+◌, ◌*◌, ◌^◌, ◌<◌, ◌≤◌}
 use native.Mathlib.Omega.{arith}
-use Rattle.std.specs.Prelude.{◌≡◌, drop}
+use Rattle.std.specs.Prelude.{◌≡◌, drop, Ok, Err}
 use Rattle.std.proofs.Math.Path.{ap}
 use mathlib.Core.List.{List, [], ◌∷◌, ◌++◌, map}
 use Rattle.std.proofs.Math.ListN.{length, take, length-append, length-map}
@@ -20,10 +20,8 @@ use Rattle.chain.specs.Values.{sum_of}
 use Rattle.amounts.specs.Amounts.{fixed}
 use Rattle.amounts.specs.AmountLaws.{exact-length, rounded-length}
 use Rattle.amounts.specs.Rounding.{rounded}
-use Rattle.totals.specs.declared.answer.SumAnswer.{SumAnswer}
-use Rattle.totals.specs.declared.answer.SumAnswer.TheVariants as sums
-use Rattle.totals.specs.declared.answer.TotalAnswer.{TotalAnswer}
-use Rattle.totals.specs.declared.answer.TotalAnswer.TheVariants as totals
+use Rattle.totals.specs.Totals.{SumAnswer}
+use Rattle.totals.specs.Totals.{TotalAnswer}
 use Rattle.totals.specs.Totals.{summed, ledger_sum, total_of, run_total}
 use Rattle.totals.specs.TotalsPromise.{SumsLog}
 use Rattle.totals.specs.TotalsTheorem.{totals-show-history}
@@ -69,15 +67,15 @@ end-length n l = omega (
 )
 
 -- A log whose total stays in 64 bits.
-module _ (b : Buffers) (i : IsLog b) (n : ℕ) (small : n < 2 ^ 64) (is : run_total b ≡ totals.Total (total_of n)) where
+module _ (b : Buffers) (i : IsLog b) (n : ℕ) (small : n < 2 ^ 64) (is : run_total b ≡ Ok (total_of n)) where
   log : SumsLog b
   log = totals-show-history.log b i
 
   part-line-length : (k : ℕ) → k < 256 → length (part_line k b) ≤ 50
   unfolding ledger_sum
-  part-line-length k l = at (ledger_sum k b) (outcome (read_ledger_checks k b) sums.Refused (sums.Sum (summed (read_ledger_part k b))))
+  part-line-length k l = at (ledger_sum k b) (outcome (read_ledger_checks k b) Err (Ok (summed (read_ledger_part k b))))
     where
-      at : (a : SumAnswer) → Outcome (read_ledger_checks k b) sums.Refused (sums.Sum (summed (read_ledger_part k b))) a → length (line_of k a) ≤ 50
+      at : (a : SumAnswer) → Outcome (read_ledger_checks k b) Err (Ok (summed (read_ledger_part k b))) a → length (line_of k a) ≤ 50
       at a (stops r q) = rw q (omega arith)
       at a (goes p q) = rw q (ledger-line-length k (length (read_ledger_part k b)) (sum_of (read_ledger_part k b)) l (log.few k) (omega (arith, log.small k)))
 

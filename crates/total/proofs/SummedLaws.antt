@@ -30,8 +30,8 @@ module _ (n : ℕ) (some : 1 ≤ n) (few : n ≤ client_limit) (xs : List Step) 
     pub run-log : IsLog b₂
     run-log = subst IsLog (sym ran-from) sums-session.log
 
-    pub run_room : {text : List ℕ} → Room text 0 (log_text b) → Room text 0 (log_text b₂)
-    run_room {text} h = subst (λ (d : Buffers). Room text 0 (log_text d)) (sym ran-from) h
+    pub run_room : {text : List ℕ} {from : ℕ} → Room text from (log_text b) → Room text from (log_text b₂)
+    run_room {text} {from} h = subst (λ (d : Buffers). Room text from (log_text d)) (sym ran-from) h
 
-    pub run-puts : {text after : List ℕ} {end : ℕ} → Puts text 0 (log_text b₂) after end → Puts text 0 (log_text b) after end
-    run-puts {text} {after} {end} p = subst (λ (d : Buffers). Puts text 0 (log_text d) after end) ran-from p
+    pub run-puts : {text after : List ℕ} {from end : ℕ} → Puts text from (log_text b₂) after end → Puts text from (log_text b) after end
+    run-puts {text} {after} {from} {end} p = subst (λ (d : Buffers). Puts text from (log_text d) after end) ran-from p

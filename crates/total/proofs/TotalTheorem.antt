@@ -1,5 +1,5 @@
 -- The promise of the run total holds.
-use Rattle.std.specs.Prelude.{ℕ, suc, ◌<◌, ◌≤◌, ◌≡◌, refl, length, get_or}
+use Rattle.std.specs.Prelude.{ℕ, suc, ◌<◌, ◌≤◌, ◌≡◌, refl, length, get_or, Ok}
 use Rattle.std.proofs.Common.{arith, sym, ◌∙◌}
 use Rattle.std.proofs.Math.Path.{ap}
 use mathlib.Core.List.{List, [], ◌∷◌, ◌++◌}
@@ -12,7 +12,6 @@ use Rattle.chain.specs.Operations.{Buffers, after_steps}
 use Rattle.chain.specs.Journal.{Journal}
 use Rattle.chain.specs.Values.{sum, values}
 use Rattle.chain.specs.LogPromise.{after, told}
-use Rattle.totals.specs.declared.answer.SumAnswer.TheVariants as sums
 use Rattle.totals.specs.Totals.{ledger_sum}
 use Rattle.totals.specs.TotalsPromise.{SumsHistory}
 use Rattle.requests.specs.Lines.{lines}
@@ -27,7 +26,7 @@ use Rattle.total.proofs.SummedLaws as sessions
 
 -- Some ledgers, each summed over the writes into it.
 lines-show : (b : Buffers) (es : List Entry) (ks : List ℕ)
-    → ((i : ℕ) → i < length ks → ledger_sum (get_or ks i 0) b ≡ sums.Sum (record { entries = length (of_ledger entry_ledger (get_or ks i 0) es); sum = sum (values (of_ledger entry_ledger (get_or ks i 0) es)) }))
+    → ((i : ℕ) → i < length ks → ledger_sum (get_or ks i 0) b ≡ Ok (record { entries = length (of_ledger entry_ledger (get_or ks i 0) es); sum = sum (values (of_ledger entry_ledger (get_or ks i 0) es)) }))
     → ledger_lines ks b ≡ writes_lines ks es
 unfolding ledger_lines writes_lines
 lines-show b es [] h = refl

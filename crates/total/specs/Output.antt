@@ -1,6 +1,6 @@
 -- The whole output of the run total: from the bytes of a session's input to the bytes that are printed.
-use Rattle.std.specs.Prelude.{ℕ, List, [], ◌∷◌, ◌++◌}
-use Rattle.text.specs.declared.lent.Printed.{Printed}
+use Rattle.std.specs.Prelude.{ℕ, List, [], ◌∷◌, ◌++◌, Result, Ok, Err}
+use Rattle.text.specs.declared.lent.TextTooShort.{TextTooShort}
 use Rattle.text.specs.Bytes.{bytes}
 use Rattle.text.specs.Decimal.{decimal}
 use Rattle.text.specs.Lent.{lent_answer, lent_text}
@@ -8,11 +8,9 @@ use Rattle.limits.specs.Limits.{run_total_limit}
 use Rattle.chain.specs.Rights.{all_rights}
 use Rattle.chain.specs.Operations.{Buffers, held, after_steps, fresh_buffers}
 use Rattle.amounts.specs.Amounts.{pointed, fixed}
-use Rattle.totals.specs.declared.answer.SumAnswer.{SumAnswer}
-use Rattle.totals.specs.declared.answer.SumAnswer.TheVariants as sums
+use Rattle.totals.specs.Totals.{SumAnswer}
 use Rattle.totals.specs.declared.answer.RunTotal.{RunTotal}
-use Rattle.totals.specs.declared.answer.TotalAnswer.{TotalAnswer}
-use Rattle.totals.specs.declared.answer.TotalAnswer.TheVariants as totals
+use Rattle.totals.specs.Totals.{TotalAnswer}
 use Rattle.totals.specs.Totals.{ledger_sum, total_of, run_total}
 use Rattle.requests.specs.Lines.{Line}
 use Rattle.requests.specs.Requests.{taken}
@@ -39,12 +37,12 @@ end_lines n = total_lines (total_of n)
 
 -- What is printed of a ledger and of the run, by what their totals answer: nothing on a refusal.
 abbrev pub line_of : ℕ → SumAnswer → List ℕ
-line_of k (sums.Sum s) = ledger_line k s.entries s.sum
-line_of k (sums.Refused r) = []
+line_of k (Ok s) = ledger_line k s.entries s.sum
+line_of k (Err r) = []
 
 abbrev pub end_of : TotalAnswer → List ℕ
-end_of (totals.Total t) = total_lines t
-end_of (totals.Refused r) = []
+end_of (Ok t) = total_lines t
+end_of (Err r) = []
 
 abbrev pub part_line : ℕ → Buffers → List ℕ
 part_line k b = line_of k (ledger_sum k b)
@@ -65,7 +63,7 @@ unfoldable pub output : List ℕ → List ℕ
 output input = printed session_total (opening input)
 
 -- The output in a lent text. A text below the limit is refused, whatever the input; no output is longer (Lengths).
-abbrev pub output_answer : List ℕ → List ℕ → Printed
+abbrev pub output_answer : List ℕ → List ℕ → Result ℕ TextTooShort
 output_answer input text = lent_answer run_total_limit (output input) text
 
 abbrev pub output_text : List ℕ → List ℕ → List ℕ

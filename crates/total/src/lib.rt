@@ -9,16 +9,15 @@ ghost use Rattle.std.specs.Prelude.{◌≡◌};
 ghost use Rattle.total.specs.Output.{output_answer, output_text};
 
 use limits::RUN_TOTAL_LIMIT;
-use text::lent::Printed;
+use text::lent::TextTooShort;
 
 // Nothing is written before it is known that every output fits.
-pub fn run_total(input: &[u8], text: &mut [u8]) -> Printed
+pub fn run_total(input: &[u8], text: &mut [u8]) -> Result<usize, TextTooShort>
     ensures answer { result ≡ output_answer input.now text.old }
     ensures text { text.new ≡ output_text input.now text.old }
 {
     if text.len() < RUN_TOTAL_LIMIT {
-        return Printed::TextTooShort;
+        return Err(TextTooShort);
     }
-    let n = crate::start::put_output(input, text);
-    Printed::Bytes(n)
+    Ok(crate::start::put_output(input, text))
 }

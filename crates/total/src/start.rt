@@ -10,8 +10,9 @@ ghost use Rattle.requests.specs.Starts.{Begun};
 ghost use Rattle.total.specs.Output.{end_of, log_text, session_total, output};
 
 use records::layout::STATE_LENGTH;
-use requests::start::{CAPACITY, Start};
-use totals::answer::TotalAnswer;
+use requests::input::Lines;
+use requests::start::{Beginning, CAPACITY};
+use text::writer::Writer;
 
 // Takes the lines from a place of the input on.
 fn run_lines(input: &[u8], from: usize, state: &mut [u64], entries: &mut [u64], rights: &[u64])
@@ -21,56 +22,66 @@ fn run_lines(input: &[u8], from: usize, state: &mut [u64], entries: &mut [u64], 
         (taken rights.now (lines (drop from input.now)))
         (buffers state.old entries.old) }
 {
-    let mut i = from;
-    while i < input.len() {
-        let taken = requests::line::take_line(input, i, state, entries, rights);
-        i = taken.next;
+    for line in Lines::of(&input[from..]) {
+        requests::line::take(line, state, entries, rights);
     }
 }
 
-fn put_total(state: &[u64], entries: &[u64], text: &mut [u8], at: usize) -> usize
-    requires { Room text.old at (end_of (run_total (buffers state.now entries.now))) }
-    ensures { Puts text.old at (end_of (run_total (buffers state.now entries.now))) text.new result }
+fn put_total(state: &[u64], entries: &[u64], to: &mut Writer)
+    requires { Room to.old.text.now to.old.at (end_of (run_total (buffers state.now entries.now))) }
+    ensures puts { Puts to.old.text.now to.old.at
+        (end_of (run_total (buffers state.now entries.now))) to.new.text.now to.new.at }
+    ensures same_text { to.new.text.ghost_name ≡ to.old.text.ghost_name }
 {
-    let total = totals::run_total::run_total(state, entries);
-    match total {
-        TotalAnswer::Total(t) => crate::lines::put_end(text, at, t),
-        TotalAnswer::Refused(_) => at,
+    if let Ok(total) = totals::run_total::run_total(state, entries) {
+        crate::lines::put_end(to, total);
     }
 }
 
-fn put_log(state: &[u64], entries: &[u64], text: &mut [u8]) -> usize
+fn put_log(state: &[u64], entries: &[u64], to: &mut Writer)
     requires log { IsLog (buffers state.now entries.now) }
-    requires room { Room text.old 0 (log_text (buffers state.now entries.now)) }
-    ensures { Puts text.old 0 (log_text (buffers state.now entries.now)) text.new result }
+    requires room { Room to.old.text.now to.old.at (log_text (buffers state.now entries.now)) }
+    ensures puts { Puts to.old.text.now to.old.at (log_text (buffers state.now entries.now)) to.new.text.now to.new.at }
+    ensures same_text { to.new.text.ghost_name ≡ to.old.text.ghost_name }
 {
-    let e = crate::ledgers::put_ledgers(state, entries, text);
-    put_total(state, entries, text, e)
+    crate::ledgers::put_ledgers(state, entries, to);
+    put_total(state, entries, to);
 }
 
 // A session on a log of its own, in which each client has all its rights.
-fn put_session(input: &[u8], from: usize, count: u64, text: &mut [u8]) -> usize
-    requires begun { Begun input.now count from }
-    requires room { Room text.old 0 (session_total count (lines (drop from input.now))) }
-    ensures { Puts text.old 0 (session_total count (lines (drop from input.now))) text.new result }
+fn put_session(input: &[u8], beginning: Beginning, to: &mut Writer)
+    requires begun { Begun input.now beginning.clients beginning.from }
+    requires room { Room to.old.text.now to.old.at (session_total beginning.clients (lines (drop beginning.from input.now))) }
+    ensures puts { Puts to.old.text.now to.old.at
+        (session_total beginning.clients (lines (drop beginning.from input.now))) to.new.text.now to.new.at }
+    ensures same_text { to.new.text.ghost_name ≡ to.old.text.ghost_name }
 {
     let mut state = [0u64; STATE_LENGTH];
     let mut entries = [0u64; CAPACITY];
     let mut rights = [0u64; rights::LENGTH];
-    fresh::fresh(&mut state, &mut entries, count);
-    rights::all::grant_all(&mut rights, count);
-    run_lines(input, from, &mut state, &mut entries, &rights);
-    put_log(&state, &entries, text)
+    fresh::fresh(&mut state, &mut entries, beginning.clients);
+    rights::all::grant_all(&mut rights, beginning.clients);
+    run_lines(input, beginning.from, &mut state, &mut entries, &rights);
+    put_log(&state, &entries, to);
 }
 
+fn put_all(input: &[u8], to: &mut Writer)
+    requires { Room to.old.text.now to.old.at (output input.now) }
+    ensures puts { Puts to.old.text.now to.old.at (output input.now) to.new.text.now to.new.at }
+    ensures same_text { to.new.text.ghost_name ≡ to.old.text.ghost_name }
+{
+    match requests::start::start_of(input) {
+        Ok(beginning) => put_session(input, beginning, to),
+        Err(why) => to.put_phrase(why.line()),
+    }
+}
+
+// The output from the first byte of a text on, and where it ends.
 pub fn put_output(input: &[u8], text: &mut [u8]) -> usize
     requires { Room text.old 0 (output input.now) }
     ensures { Puts text.old 0 (output input.now) text.new result }
 {
-    let start = requests::start::start_of(input);
-    match start {
-        Start::TooLong => text::phrase::put_phrase(text, 0, b"too long\n"),
-        Start::BadStart => text::phrase::put_phrase(text, 0, b"bad start\n"),
-        Start::Begins(count, from) => put_session(input, from, count, text),
-    }
+    let mut to = Writer { text, at: 0 };
+    put_all(input, &mut to);
+    to.at
 }

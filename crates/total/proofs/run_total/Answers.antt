@@ -8,10 +8,10 @@ returns-then-text-lt-RUN_TOTAL_LIMIT c =
     let t = too_short _ _ _ (omega (arith, c.if-text-lt-RUN_TOTAL_LIMIT.true)) in
     record { answer = t.0; text = t.1 }
 
-pub put_output-n-requires : goal.put_output-n-requires
-put_output-n-requires c = room-for-all _ _ _ (output-length _) (omega (arith, c.if-text-lt-RUN_TOTAL_LIMIT.false))
+pub put_output-requires : goal.put_output-requires
+put_output-requires c = room-for-all _ _ _ (output-length _) (omega (arith, c.if-text-lt-RUN_TOTAL_LIMIT.false))
 
 pub returns : goal.returns
 returns c =
-    let t = printed _ _ _ (output-length _) (omega (arith, c.if-text-lt-RUN_TOTAL_LIMIT.false)) _ _ c.put_output-n.ensures in
+    let t = printed _ _ _ (output-length _) (omega (arith, c.if-text-lt-RUN_TOTAL_LIMIT.false)) _ _ c.put_output.ensures in
     record { answer = t.0; text = t.1 }

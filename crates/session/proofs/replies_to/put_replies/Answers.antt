@@ -1,20 +1,41 @@
-use Rattle.std.proofs.Common.{arith}
-use Rattle.session.proofs.Parts.{turn-room, turn, turns-end}
+use Rattle.std.proofs.Common.{◌≡◌, ◌-◌, rules, arith, ap, refl, ◌∙◌, [], ⊎_elim, length, take, drop, take_all, length-drop}
+use Rattle.requests.specs.Lines.{lines}
+use Rattle.requests.specs.LineLaws.{few-lines}
+use Rattle.session.proofs.Parts.{running-start, turn-room, turn, turns-end}
 use Rattle.session.proofs.replies_to.put_replies.Goals as goal
 
-pub put_reply_line-at-requires : goal.put_reply_line-at-requires
-put_reply_line-at-requires c =
-    turn-room _ _ _ c.loop-i.invariant.4 c.take_line-taken.ensures c.requires.room
+pub loop-number-init : goal.loop-number-init
+loop-number-init c =
+    let args = c.args in
+    let whole : take (length args.input.now - args.from) (drop args.from args.input.now) ≡ drop args.from args.input.now =
+    take_all (length args.input.now - args.from) (drop args.from args.input.now) (omega (arith, length-drop args.from args.input.now)) in
+    let all : lines c.into_iter-number-iterator.result.b.rest.now ≡ lines (drop args.from args.input.now) =
+    rw c.into_iter-number-iterator.ensures.into_iter_gives (rw c.zip-number-items.ensures.second (ap lines (c.of.ensures ∙ whole))) in
+    let one : c.into_iter-number-iterator.result.a.start ≡ 1 =
+    rw c.into_iter-number-iterator.ensures.into_iter_gives (rw c.zip-number-items.ensures.first refl) in record {
+      few = omega (arith, one, ap length all, few-lines (drop args.from args.input.now), length-drop args.from args.input.now, c.requires.small);
+      running = rw (all, one) (running-start _ _ _ _ _);
+      same_text = refl;
+    }
 
-pub loop-i-preserved : goal.loop-i-preserved
-loop-i-preserved c =
-    let line = c.take_line-taken.ensures in (
-      line.within,
-      omega (arith, line.onward, c.loop-i.invariant.1),
-      omega (arith, c.take_line-taken.auto.state, c.loop-i.invariant.2),
-      omega (arith, c.take_line-taken.auto.entries, c.loop-i.invariant.3),
-      turn _ _ _ c.loop-i.invariant.4 line _ _ c.put_reply_line-at.ensures,
-    )
+pub put_reply_line-requires : goal.put_reply_line-requires
+put_reply_line-requires c =
+    let st = c.in-Some.ensures.steps in
+    rw st.0.0 (turn-room c.loop-number.invariant.running st.1 c.take-reply.ensures c.requires.room)
 
-pub returns : goal.returns
-returns c = turns-end _ _ c.loop-i.invariant.4 c.loop-i-test.false
+pub loop-number-preserved : goal.loop-number-preserved
+loop-number-preserved c =
+    let inv = c.loop-number.invariant in
+    let st = c.in-Some.ensures.steps in record {
+      few = omega (arith, inv.few, st.0.0, st.0.1, ap length st.1);
+      running = rw (st.0.1, st.0.0) (turn inv.running st.1 c.take-reply.ensures _ _ (rw st.0.0 at c.put_reply_line.ensures.puts));
+      same_text = search rules;
+    }
+
+-- The numbers outlast the lines.
+pub returns-clause-ran : goal.returns-clause-ran
+returns-clause-ran c =
+    let inv = c.loop-number.invariant in
+    let none : lines c.loop-number.number-iterator.b.rest.now ≡ [] =
+    ⊎_elim (λ n. absurd (omega (arith, inv.few, n.1.0))) (λ l. l.1.0) c.in-None.ensures.steps in
+    turns-end inv.running none

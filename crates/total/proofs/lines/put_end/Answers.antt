@@ -2,14 +2,14 @@ use Rattle.text.specs.Puts.{puts_then, room-first, room_next}
 use Rattle.total.specs.Output.{total_lines}
 use Rattle.total.proofs.lines.put_end.Goals as goal
 
-pub put_total_line-e-requires : goal.put_total_line-e-requires
+pub put_total_line-requires : goal.put_total_line-requires
 unfolding total_lines
-put_total_line-e-requires c = room-first _ _ c.requires
+put_total_line-requires c = room-first _ _ c.requires
 
 pub put_rounded_line-requires : goal.put_rounded_line-requires
 unfolding total_lines
-put_rounded_line-requires c = room_next c.put_total_line-e.ensures _ c.requires
+put_rounded_line-requires c = room_next c.put_total_line.ensures.puts _ c.requires
 
-pub returns : goal.returns
+pub returns-clause-puts : goal.returns-clause-puts
 unfolding total_lines
-returns c = puts_then c.put_total_line-e.ensures c.put_rounded_line.ensures
+returns-clause-puts c = puts_then c.put_total_line.ensures.puts c.put_rounded_line.ensures.puts

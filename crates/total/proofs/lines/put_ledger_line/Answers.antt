@@ -2,26 +2,26 @@ use Rattle.text.specs.Puts.{puts_then, room-first, room_next}
 use Rattle.total.specs.Output.{ledger_line}
 use Rattle.total.proofs.lines.put_ledger_line.Goals as goal
 
-pub put_counted-e-requires : goal.put_counted-e-requires
+pub put_counted-requires : goal.put_counted-requires
 unfolding ledger_line
-put_counted-e-requires c = room-first _ _ c.requires
+put_counted-requires c = room-first _ _ c.requires
 
-pub put_counted-f-requires : goal.put_counted-f-requires
+pub put_counted-requires-2 : goal.put_counted-requires-2
 unfolding ledger_line
-put_counted-f-requires c = room-first _ _ (room_next c.put_counted-e.ensures _ c.requires)
+put_counted-requires-2 c = room-first _ _ (room_next c.put_counted.ensures.puts _ c.requires)
 
-pub put_phrase-g-requires : goal.put_phrase-g-requires
+pub put_phrase-requires : goal.put_phrase-requires
 unfolding ledger_line
-put_phrase-g-requires c = room-first _ _ (room_next c.put_counted-f.ensures _ (room_next c.put_counted-e.ensures _ c.requires))
+put_phrase-requires c = room-first _ _ (room_next c.put_counted-2.ensures.puts _ (room_next c.put_counted.ensures.puts _ c.requires))
 
-pub put_exact-h-requires : goal.put_exact-h-requires
+pub put_exact-requires : goal.put_exact-requires
 unfolding ledger_line
-put_exact-h-requires c = room-first _ _ (room_next c.put_phrase-g.ensures _ (room_next c.put_counted-f.ensures _ (room_next c.put_counted-e.ensures _ c.requires)))
+put_exact-requires c = room-first _ _ (room_next c.put_phrase.ensures.puts _ (room_next c.put_counted-2.ensures.puts _ (room_next c.put_counted.ensures.puts _ c.requires)))
 
 pub put_byte-requires : goal.put_byte-requires
 unfolding ledger_line
-put_byte-requires c = room_next c.put_exact-h.ensures _ (room_next c.put_phrase-g.ensures _ (room_next c.put_counted-f.ensures _ (room_next c.put_counted-e.ensures _ c.requires)))
+put_byte-requires c = room_next c.put_exact.ensures.puts _ (room_next c.put_phrase.ensures.puts _ (room_next c.put_counted-2.ensures.puts _ (room_next c.put_counted.ensures.puts _ c.requires)))
 
-pub returns : goal.returns
+pub returns-clause-puts : goal.returns-clause-puts
 unfolding ledger_line
-returns c = puts_then c.put_counted-e.ensures (puts_then c.put_counted-f.ensures (puts_then c.put_phrase-g.ensures (puts_then c.put_exact-h.ensures c.put_byte.ensures)))
+returns-clause-puts c = puts_then c.put_counted.ensures.puts (puts_then c.put_counted-2.ensures.puts (puts_then c.put_phrase.ensures.puts (puts_then c.put_exact.ensures.puts c.put_byte.ensures.puts)))

@@ -2,14 +2,14 @@ use Rattle.text.specs.Puts.{puts_then, room-first, room_next}
 use Rattle.total.specs.Output.{log_text}
 use Rattle.total.proofs.start.put_log.Goals as goal
 
-pub put_ledgers-e-requires : goal.put_ledgers-e-requires
+pub put_ledgers-requires : goal.put_ledgers-requires
 unfolding log_text
-put_ledgers-e-requires c = record { log = c.requires.log; room = room-first _ _ c.requires.room }
+put_ledgers-requires c = record { log = c.requires.log; room = room-first _ _ c.requires.room }
 
 pub put_total-requires : goal.put_total-requires
 unfolding log_text
-put_total-requires c = room_next c.put_ledgers-e.ensures _ c.requires.room
+put_total-requires c = room_next c.put_ledgers.ensures.puts _ c.requires.room
 
-pub returns : goal.returns
+pub returns-clause-puts : goal.returns-clause-puts
 unfolding log_text
-returns c = puts_then c.put_ledgers-e.ensures c.put_total.ensures
+returns-clause-puts c = puts_then c.put_ledgers.ensures.puts c.put_total.ensures.puts

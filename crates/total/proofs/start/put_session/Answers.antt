@@ -10,8 +10,8 @@ put_log-requires c =
     let is = fresh-is _ begun.some begun.few _ _ _ _ refl refl c.fresh.ensures in
     let ran = rw (c.grant_all.ensures ∙ granted-all _ refl) at c.run_lines.ensures in record { log = run-log _ begun.some begun.few _ is ran; room = run_room _ begun.some begun.few _ is ran c.requires.room }
 
-pub returns : goal.returns
-returns c =
+pub returns-clause-puts : goal.returns-clause-puts
+returns-clause-puts c =
     let begun = c.requires.begun in
     run-puts _ begun.some begun.few _ (fresh-is _ begun.some begun.few _ _ _ _ refl refl c.fresh.ensures)
-    (rw (c.grant_all.ensures ∙ granted-all _ refl) at c.run_lines.ensures) c.put_log.ensures
+    (rw (c.grant_all.ensures ∙ granted-all _ refl) at c.run_lines.ensures) c.put_log.ensures.puts

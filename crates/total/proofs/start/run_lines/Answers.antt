@@ -1,16 +1,19 @@
-use Rattle.std.proofs.Common.{arith, sym, ◌∙◌}
-use Rattle.requests.specs.Turns.{steps-turn, steps-end}
+use Rattle.std.proofs.Common.{◌≡◌, ◌-◌, arith, ap, refl, sym, ◌∙◌, length, take, drop, take_all, length-drop}
+use Rattle.requests.specs.Lines.{lines}
+use Rattle.requests.specs.Turns.{steps_taken, steps_none}
 use Rattle.total.proofs.start.run_lines.Goals as goal
 
-pub loop-i-preserved : goal.loop-i-preserved
-loop-i-preserved c =
-    let line = c.take_line-taken.ensures in
-    let inv = c.loop-i.invariant in (
-      line.within,
-      omega (arith, c.take_line-taken.auto.state, inv.1),
-      omega (arith, c.take_line-taken.auto.entries, inv.2),
-      sym (steps-turn line) ∙ inv.3,
-    )
+pub loop-line-init : goal.loop-line-init
+loop-line-init c =
+    let args = c.args in
+    let whole : take (length args.input.now - args.from) (drop args.from args.input.now) ≡ drop args.from args.input.now =
+    take_all (length args.input.now - args.from) (drop args.from args.input.now) (omega (arith, length-drop args.from args.input.now)) in
+    let all : lines c.into_iter-line-iterator.result.rest.now ≡ lines (drop args.from args.input.now) =
+    rw c.into_iter-line-iterator.ensures.into_iter_gives (ap lines (c.of-line-items.ensures ∙ whole)) in
+    rw all refl
+
+pub loop-line-preserved : goal.loop-line-preserved
+loop-line-preserved c = sym (steps_taken c.in-Some.ensures.steps c.take.ensures) ∙ c.loop-line.invariant
 
 pub returns : goal.returns
-returns c = sym (steps-end _ _ _ _ c.loop-i-test.false) ∙ c.loop-i.invariant.3
+returns c = sym (steps_none _ _ c.in-None.ensures.steps.0) ∙ c.loop-line.invariant
