@@ -1,39 +1,38 @@
-// The log's answers as three numbers, like the model's.
-use chain::answer::Answer;
+// An answer of the log or of the model, so that the two can be compared.
 
-// The kind of an answer, the number of the entry or of the refusal, or else 0, and the entry's place in its ledger, or else 0.
-#[derive(Clone, Copy, Drop)]
-pub struct Said {
-    pub answer: u64,
-    pub number: u64,
-    pub place: u64,
+// What was answered. A refusal is its number in the reference, of which the log has more than the model.
+#[derive(Clone, Copy, Debug, PartialEq, Eq)]
+pub enum Said {
+    Done,
+    WasClosed,
+    Behind,
+    Written { number: u64, place: u64 },
+    Refused(u64),
 }
 
-fn without_place(answer: u64, number: u64) -> Said {
-    Said {
-        answer,
-        number,
-        place: 0,
+impl From<chain::answer::Answer> for Said {
+    fn from(answer: chain::answer::Answer) -> Said {
+        match answer {
+            chain::answer::Answer::Done => Said::Done,
+            chain::answer::Answer::WasClosed => Said::WasClosed,
+            chain::answer::Answer::Behind => Said::Behind,
+            chain::answer::Answer::Written(at) => Said::Written {
+                number: at.number.0,
+                place: at.place.0,
+            },
+            chain::answer::Answer::Refused(r) => Said::Refused(u64::from(r)),
+        }
     }
 }
 
-pub fn numbers_of(answer: Answer) -> Said {
-    match answer {
-        Answer::Done => without_place(model::source::DONE, 0),
-        Answer::WasClosed => without_place(model::source::WAS_CLOSED, 0),
-        Answer::Behind => without_place(model::source::BEHIND, 0),
-        Answer::Written(at) => Said {
-            answer: model::source::WRITTEN,
-            number: at.number.0,
-            place: at.place.0,
-        },
-        Answer::Refused(r) => without_place(
-            model::source::REFUSED,
-            chain::answer::refusal_number(r),
-        ),
+impl From<model::answer::Answer> for Said {
+    fn from(answer: model::answer::Answer) -> Said {
+        match answer {
+            model::answer::Answer::Done => Said::Done,
+            model::answer::Answer::WasClosed => Said::WasClosed,
+            model::answer::Answer::Behind => Said::Behind,
+            model::answer::Answer::Written { number, place } => Said::Written { number, place },
+            model::answer::Answer::Refused(r) => Said::Refused(r as u64),
+        }
     }
-}
-
-pub fn same_answer(a: Said, b: Said) -> bool {
-    (a.answer == b.answer) & (a.number == b.number) & (a.place == b.place)
 }

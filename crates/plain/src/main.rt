@@ -9,27 +9,26 @@ mod say;
 mod score_writes;
 mod script;
 
+use comparison::Comparison;
 use std::io;
 
 fn main(rt: HostRuntime) -> io::Result<()> {
-    let mut model = [0u64; model::memory::SIZE];
-    let mut state = [0u64; 527];
-    let mut entries = [0u64; 4096];
-    examples::session(&rt, &mut model, &mut state, &mut entries)?;
-    readings::chain_line(&rt, &state, &entries)?;
-    examples::fence(&rt, &mut model, &mut state, &mut entries)?;
-    examples::wide_value(&rt, &mut model, &mut state, &mut entries)?;
-    examples::empty_ledger(&rt, &mut model, &mut state, &mut entries)?;
-    readings::chain_line(&rt, &state, &entries)?;
-    examples::empty_fenced_ledger(&rt, &mut model, &mut state, &mut entries)?;
-    recovery::recovery(&rt, &mut model, &mut state, &mut entries)?;
-    recovery::impossible_memory(&rt, &mut model, &mut state, &mut entries)?;
-    examples::on_a_fresh_log(&rt, &mut model, &mut state, &mut entries)?;
-    examples::short_state(&rt, &mut model, &mut state, &mut entries)?;
-    examples::client_counts(&rt, &mut model, &mut state, &mut entries)?;
-    examples::last_ledger(&rt, &mut model, &mut state, &mut entries)?;
-    examples::last_entry(&rt, &mut model, &mut state, &mut entries)?;
-    readings::long_reading(&rt, &state, &entries)?;
-    score_writes::scores(&rt, &mut model, &mut state, &mut entries)?;
-    say::say_difference(&rt, &model)
+    let mut both = Comparison::new();
+    examples::session(&rt, &mut both)?;
+    readings::chain_line(&rt, &both)?;
+    examples::fence(&rt, &mut both)?;
+    examples::wide_value(&rt, &mut both)?;
+    examples::empty_ledger(&rt, &mut both)?;
+    readings::chain_line(&rt, &both)?;
+    examples::empty_fenced_ledger(&rt, &mut both)?;
+    recovery::recovery(&rt, &mut both)?;
+    recovery::impossible_memory(&rt, &mut both)?;
+    examples::on_a_fresh_log(&rt, &mut both)?;
+    examples::short_state(&rt, &mut both)?;
+    examples::client_counts(&rt, &mut both)?;
+    examples::last_ledger(&rt, &mut both)?;
+    examples::last_entry(&rt, &mut both)?;
+    readings::long_reading(&rt, &both)?;
+    score_writes::scores(&rt, &mut both)?;
+    say::say_difference(&rt, &both)
 }

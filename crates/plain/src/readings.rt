@@ -1,64 +1,43 @@
 // The chain of the log after an example.
-use crate::say::{say, say_number};
-use chain::answer::{Answer, ChainAnswer};
-use comparison::buffers::{Entries, State};
+ghost use Rattle.std.specs.Prelude.{◌≤◌, length};
+
+use chain::answer::Answer;
+use comparison::Comparison;
 use records::entry::CLIENT_UNIT;
 use std::io;
 
-// The first words that were read, each as ` client:value`.
-fn say_words(rt: &impl Print, words: &[u64; 4096], count: u64) -> io::Result<()> {
-    let mut i: usize = 0;
-    while i < 4096 {
-        if count <= i as u64 {
-            return Ok(());
-        }
-        let word = words[i];
-        say(rt, " ")?;
-        say_number(rt, word / CLIENT_UNIT)?;
-        say(rt, ":")?;
-        say_number(rt, word % CLIENT_UNIT)?;
-        i += 1;
-    }
-    Ok(())
-}
-
-// The whole chain on one line, or the refusal.
-pub fn chain_line(rt: &impl Print, state: &State, entries: &Entries) -> io::Result<()> {
-    let mut words = [0u64; 4096];
-    let answer = readers::read_chain::read_chain(state, entries, &mut words);
+// The whole chain on one line, each word as ` client:value`, or the refusal.
+pub fn chain_line(rt: &impl Print, both: &Comparison) -> io::Result<()> {
+    let mut words = [0; 4096];
+    let answer = readers::read_chain::read_chain(&both.state, &both.entries, &mut words);
     match answer {
-        ChainAnswer::Refused(r) => crate::say::say_line(rt, "chain", Answer::Refused(r)),
-        ChainAnswer::Count(n) => {
-            say(rt, "chain")?;
-            say_words(rt, &words, n)?;
-            say(rt, "\n")
+        Err(r) => crate::say::say_line(rt, "chain", Answer::Refused(r)),
+        Ok(n) => {
+            print!(rt; "chain")?;
+            for word in words.iter().take(n as usize) {
+                print!(rt; " {}:{}", word / CLIENT_UNIT, word % CLIENT_UNIT)?;
+            }
+            println!(rt; "")
         }
     }
 }
 
-// The sum of the values of the first words.
-fn sum_of_values(words: &[u64; 4096], count: u64) -> u64 {
-    let mut sum: u64 = 0;
-    let mut i: usize = 0;
-    while i < 4096 {
-        if count <= i as u64 {
-            return sum;
-        }
-        sum += words[i] % CLIENT_UNIT;
-        i += 1;
-    }
-    sum
+fn sum_of_values(words: &[u64]) -> u64
+    requires { length words.now ≤ 4096 }
+{
+    words.iter().map(|word| word % CLIENT_UNIT).sum()
 }
 
 // How many words the chain has and the sum of their values, or the refusal.
-pub fn long_reading(rt: &impl Print, state: &State, entries: &Entries) -> io::Result<()> {
-    let mut words = [0u64; 4096];
-    let answer = readers::read_chain::read_chain(state, entries, &mut words);
+pub fn long_reading(rt: &impl Print, both: &Comparison) -> io::Result<()> {
+    let mut words = [0; 4096];
+    let answer = readers::read_chain::read_chain(&both.state, &both.entries, &mut words);
     match answer {
-        ChainAnswer::Refused(r) => crate::say::say_line(rt, "reading", Answer::Refused(r)),
-        ChainAnswer::Count(n) => {
-            crate::say::say_number_line(rt, "reading ", n)?;
-            crate::say::say_number_line(rt, "sum ", sum_of_values(&words, n))
+        Err(r) => crate::say::say_line(rt, "reading", Answer::Refused(r)),
+        Ok(n) => {
+            println!(rt; "reading {n}")?;
+            let count = words.len().min(n as usize);
+            println!(rt; "sum {}", sum_of_values(&words[..count]))
         }
     }
 }

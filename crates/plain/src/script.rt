@@ -1,54 +1,57 @@
 // The steps of the longer examples, by their numbers from 1.
-use crate::beside::{asked, write};
-use comparison::step::Asked;
-use model::answer::{APPEND, BECOME, CLOSE_LAST, CLOSE_OWN, CREATE, FETCH, FINISH, NAME};
+use crate::beside::{asked, take, write};
+use chain::answer::Answer;
+use comparison::Comparison;
+use model::answer::{Asked, Step};
+use std::ops::RangeInclusive;
 
-pub const SESSION: u64 = 0;
-
-pub const LEDGERS: u64 = 1;
-
-pub const ENTRIES: u64 = 2;
+// Takes the steps of a script by their numbers. It answers what the last of them answered.
+pub fn play<F: Fn(u64) -> Asked>(
+    both: &mut Comparison,
+    script: F,
+    numbers: RangeInclusive<u64>,
+) -> Answer
+    requires { F.IsAlwaysCallable script }
+{
+    let mut answer = Answer::Done;
+    for n in numbers {
+        answer = take(both, script(n));
+    }
+    answer
+}
 
 // The reference's example session: after its line 4 client 0 leads and has its ledger listed.
-fn session_step(line: u64) -> Asked {
+pub fn session_step(line: u64) -> Asked {
     match line {
-        1 => asked(BECOME, 0),
-        2 => asked(FETCH, 0),
-        3 => asked(CREATE, 0),
-        4 => asked(APPEND, 0),
+        1 => asked(Step::Become, 0),
+        2 => asked(Step::Fetch, 0),
+        3 => asked(Step::Create, 0),
+        4 => asked(Step::Append, 0),
         5 => write(0, 7),
-        6 => asked(NAME, 1),
-        7 => asked(BECOME, 1),
-        8 => asked(FETCH, 1),
-        9 => asked(CLOSE_LAST, 1),
-        10 => asked(FINISH, 1),
+        6 => asked(Step::Name, 1),
+        7 => asked(Step::Become, 1),
+        8 => asked(Step::Fetch, 1),
+        9 => asked(Step::CloseLast, 1),
+        10 => asked(Step::Finish, 1),
         11 => write(0, 8),
-        12 => asked(CREATE, 1),
-        13 => asked(APPEND, 1),
+        12 => asked(Step::Create, 1),
+        13 => asked(Step::Append, 1),
         14 => write(1, 9),
-        _ => asked(CLOSE_OWN, 0),
+        _ => asked(Step::CloseOwn, 0),
     }
 }
 
 // From then on, one ledger after another: an entry, the ledger closed, the next created and listed.
-fn ledger_step(n: u64) -> Asked {
+pub fn ledger_step(n: u64) -> Asked {
     match n % 4 {
         1 => write(0, 0),
-        2 => asked(CLOSE_OWN, 0),
-        3 => asked(CREATE, 0),
-        _ => asked(APPEND, 0),
+        2 => asked(Step::CloseOwn, 0),
+        3 => asked(Step::Create, 0),
+        _ => asked(Step::Append, 0),
     }
 }
 
 // Or one entry after another, each with its own number as the value.
-fn entry_step(n: u64) -> Asked {
-    write(0, std::num::wrapping_sub_u64(n, 1))
-}
-
-pub fn step(script: u64, n: u64) -> Asked {
-    match script {
-        SESSION => session_step(n),
-        LEDGERS => ledger_step(n),
-        _ => entry_step(n),
-    }
+pub fn entry_step(n: u64) -> Asked {
+    write(0, n.wrapping_sub(1))
 }
