@@ -18,6 +18,11 @@ impl Fault {
     pub fn primary(&self) -> c_int {
         self.code & 0xFF
     }
+
+    /// Whether another process held the lock for longer than this one waits.
+    pub fn is_busy(&self) -> bool {
+        matches!(self.primary(), sqlite::BUSY | sqlite::PROTOCOL)
+    }
 }
 
 /// What it means here, where SQLite's own words would not tell, and its code.
@@ -25,7 +30,7 @@ impl fmt::Display for Fault {
     fn fmt(&self, f: &mut fmt::Formatter<'_>) -> fmt::Result {
         let told = match self.primary() {
             _ if self.code == sqlite::IOERR_VNODE => &self.message,
-            sqlite::BUSY => "another process held the log for longer than this one waits",
+            _ if self.is_busy() => "another process held the log for longer than this one waits",
             sqlite::FULL => "the disk is full",
             sqlite::READONLY => "the file or its folder cannot be written",
             sqlite::CANTOPEN => "the file, or one that SQLite keeps beside it, cannot be opened",

@@ -36,6 +36,9 @@ pub const CORRUPT: c_int = 11;
 pub const FULL: c_int = 13;
 /// The file cannot be opened.
 pub const CANTOPEN: c_int = 14;
+/// No read could begin for ten seconds. The process that holds the lock has stored half of what says where the write-ahead
+/// log ends, and stands still.
+pub const PROTOCOL: c_int = 15;
 /// A value is larger than it may be.
 pub const TOOBIG: c_int = 18;
 /// The file is none of SQLite.

@@ -108,7 +108,7 @@ impl Error {
 
     /// Whether another process held the lock for longer than this one waits.
     pub fn is_busy(&self) -> bool {
-        matches!(self, Error::Engine { fault, .. } if fault.primary() == sqlite::BUSY)
+        matches!(self, Error::Engine { fault, .. } if fault.is_busy())
     }
 
     /// Whether the disk had no room. SQLite tells of a write-ahead log that cannot grow by an error of writing.

@@ -160,8 +160,10 @@ mod tests {
         let engine = |stored, code| Error::Engine { stored, fault: fault(code) };
         const BUSY: i32 = 5;
         const FULL: i32 = 13;
+        const PROTOCOL: i32 = 15;
         for (error, status) in [
             (engine(Stored::No, BUSY), Status::Busy),
+            (engine(Stored::No, PROTOCOL), Status::Busy),
             (engine(Stored::Unknown, BUSY), Status::Unknown),
             (engine(Stored::No, FULL), Status::NotStored),
             (Error::Unknown { request: 7, why: String::new() }, Status::Unknown),

@@ -123,14 +123,21 @@ impl Controller {
         at.map_or(Ok(()), |(log, file)| self.start(log, &file))
     }
 
-    /// Stops it: it keeps all that it holds.
-    pub fn stop(&self) -> Result<(), String> {
-        self.work.as_ref().map_or(Ok(()), |(.., work)| send(&work.child, SIGSTOP).map_err(text))
-    }
-
-    /// Has it go on.
-    pub fn go_on(&self) -> Result<(), String> {
-        self.work.as_ref().map_or(Ok(()), |(.., work)| send(&work.child, SIGCONT).map_err(text))
+    /// Stops it while this is done, or for the longest time if that is over earlier. It keeps all that it holds.
+    pub fn while_stopped<T>(&self, longest: Duration, done: impl FnOnce() -> Result<T, String>) -> Result<T, String> {
+        let Some((.., Work { child, .. })) = &self.work else { return done() };
+        send(child, SIGSTOP).map_err(text)?;
+        std::thread::scope(|scope| {
+            let (is_done, when_done) = channel::<()>();
+            let goes_on = scope.spawn(move || {
+                let _ = when_done.recv_timeout(longest);
+                send(child, SIGCONT).map_err(text)
+            });
+            let result = done();
+            drop(is_done);
+            goes_on.join().expect("it sends a signal")?;
+            result
+        })
     }
 
     /// Kills it at this moment, and notes what it had told until then.

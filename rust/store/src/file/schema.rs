@@ -81,7 +81,7 @@ pub fn is_filled(database: &Database) -> Result<bool, Error> {
             database.execute("ROLLBACK")?;
             Ok(!empty?)
         }
-        Err(fault) if fault.primary() == sqlite::BUSY => Err(fault.into()),
+        Err(fault) if fault.is_busy() => Err(fault.into()),
         // A file that this account cannot write may be created by another.
         Err(_) => Ok(false),
     }

@@ -7,7 +7,7 @@ use std::io::Write;
 use std::path::Path;
 use std::process::ExitCode;
 use std::time::{Duration, Instant};
-use store::Store;
+use store::{PATIENCE, Store};
 use store_tests::audit::{self, Counts};
 use store_tests::journal;
 use store_tests::languages::Controller;
@@ -28,6 +28,10 @@ const STEPS: usize = 4;
 
 /// How long the election waits for a leader that is stopped, and may hold the lock.
 const ELECTION_PATIENCE: Duration = Duration::from_millis(20);
+
+/// How long a leader is stopped at most. One that is stopped while it stores where the write-ahead log ends lets nobody read,
+/// and SQLite tries for ten seconds, whatever the patience: the others would give up.
+const STOPPED: Duration = Duration::from_millis(200);
 
 /// How long the control may take to fail.
 const CONTROL_TIME: Duration = Duration::from_secs(2);
@@ -137,7 +141,6 @@ fn share(
     for log in 0.. {
         let (file, clients) = (place.log(log), commands.len() as u64);
         let mut store = Store::create(&file, clients, capacity_of(log)).map_err(|error| error.to_string())?;
-        store.set_patience(ELECTION_PATIENCE);
         controllers.iter_mut().try_for_each(|controller| controller.start(log, &file))?;
         let until = last.min(Instant::now() + TIME_OF_A_LOG);
         while Instant::now() < until && disturb(&mut store, &mut controllers, random, &mut done)? {}
@@ -171,14 +174,13 @@ fn disturb(
         }
         // The leader is deposed, at times while it does not move.
         2 | 3 => {
-            let stopped = random.chance(50);
-            if stopped {
-                controllers[named as usize].stop()?;
-            }
-            done.deposed += u64::from(lead(store, (named + 1) % controllers.len() as u64)?);
-            if stopped {
-                controllers[named as usize].go_on()?;
-            }
+            let next = (named + 1) % controllers.len() as u64;
+            let deposed = if random.chance(50) {
+                controllers[named as usize].while_stopped(STOPPED, || lead(store, next))?
+            } else {
+                lead(store, next)?
+            };
+            done.deposed += u64::from(deposed);
         }
         _ => {}
     }
@@ -188,6 +190,13 @@ fn disturb(
 /// Names a client, and takes steps for it as a second process of it would: so the controllers find that another was faster.
 /// Says whether it is named.
 fn lead(store: &mut Store, client: u64) -> Result<bool, String> {
+    store.set_patience(ELECTION_PATIENCE);
+    let named = elect(store, client);
+    store.set_patience(PATIENCE);
+    named
+}
+
+fn elect(store: &mut Store, client: u64) -> Result<bool, String> {
     let done = |store: &mut Store, kind| match store.take(client, Step::new(kind, 0)) {
         Ok(_) => Ok(true),
         // Another was faster, or one that is stopped holds the lock.
@@ -196,7 +205,10 @@ fn lead(store: &mut Store, client: u64) -> Result<bool, String> {
     };
     let named = done(store, Kind::Name)?;
     for _ in 0..STEPS {
-        let latest = store.latest().map_err(|error| error.to_string())?;
+        let latest = match store.latest() {
+            Err(error) if error.is_busy() => break,
+            latest => latest.map_err(|error| error.to_string())?,
+        };
         match latest.log().advise(client).map_err(|error| error.to_string())? {
             None | Some(Kind::Write) => break,
             Some(kind) => done(store, kind)?,
