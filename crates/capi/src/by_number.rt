@@ -28,7 +28,6 @@ pub fn cindrolf_take(
     ensures { TakeCall (numbered_step (all_of state.old) step client value)
         (buffers state.old entries.old) result state.new entries.new }
 {
-    let mut rights = [0u64; rights::LENGTH];
-    rights::all::grant_all_of(state, &mut rights);
+    let rights = rights::all::all_of(state);
     cindrolf_take_with(state, entries, &rights, step, client, value)
 }

@@ -12,8 +12,7 @@ fn take_with_all_rights(state: &mut [u64], entries: &mut [u64], step: Step) -> u
     ensures { StepCall (step_of (all_of state.old) step)
         (buffers state.old entries.old) result state.new entries.new }
 {
-    let mut rights = [0u64; rights::LENGTH];
-    rights::all::grant_all_of(state, &mut rights);
+    let rights = rights::all::all_of(state);
     crate::permitted::take_numbered(state, entries, &rights, step)
 }
 
@@ -90,8 +89,7 @@ pub fn cindrolf_write_scores(
         (by (all_of state.old) client (kinds.write (kinds.of_scores scores.now)))
         (buffers state.old entries.old) result state.new entries.new }
 {
-    let mut rights = [0u64; rights::LENGTH];
-    rights::all::grant_all_of(state, &mut rights);
+    let rights = rights::all::all_of(state);
     crate::permitted::take_scores(state, entries, &rights, client, scores)
 }
 

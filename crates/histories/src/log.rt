@@ -14,7 +14,6 @@ fn step_of(asked: Asked) -> Step {
 }
 
 pub fn take(both: &mut Comparison, asked: Asked) -> Answer {
-    let mut rights = [0; rights::LENGTH];
-    rights::all::grant_all_of(&both.state, &mut rights);
+    let rights = rights::all::all_of(&both.state);
     dispatch::check_and_take(&mut both.state, &mut both.entries, &rights, step_of(asked))
 }

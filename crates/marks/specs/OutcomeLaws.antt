@@ -20,10 +20,10 @@ use Rattle.chain.specs.Verdicts.{Verdict}
 use Rattle.chain.specs.Verdicts.{verdict, and_then, verdict-append, verdict-passes, verdict-refuses, passes-first}
 use Rattle.chain.specs.Buffers.{head}
 use Rattle.chain.specs.Operations.{buffers, cleared}
-use Rattle.chain.specs.Marks.{marks_length, count_unit, pairs_of, words_of, among, well_marked, with_mark, without_mark, log_count, set_checks, set_answer, after_set, drop_checks, drop_answer, after_drop, first_entries, mark_count, read_mark_checks, read_mark_answer, read_mark_output}
+use Rattle.chain.specs.Marks.{marks_length, count_unit, pairs_of, words_of, word_of, among, well_marked, with_mark, without_mark, log_count, set_checks, set_answer, after_set, drop_checks, drop_answer, after_drop, first_entries, mark_count, read_mark_checks, read_mark_answer, read_mark_output}
 use Rattle.chain.proofs.Laws.Formed.{formed, sized}
 use Rattle.chain.proofs.Laws.Marks.{kept-count}
-use Rattle.marks.specs.Pairs.{place_of, place-within}
+use Rattle.marks.specs.Pairs.{pair_in, place_of, place-within, pair-within}
 use Rattle.marks.specs.Placed.{free_place, kept_place, by-refusal, by-place}
 use Rattle.marks.specs.Gap.{gap_closed}
 use Rattle.marks.specs.PlacedLaws.{set-placed, drop-placed, word-placed}
@@ -96,6 +96,17 @@ module _ (name : ℕ) (s e ms : List ℕ) {c : Result ℕ Refusal} (is : c ≡ k
     pub kept_within : 2 * k + 1 < marks_length
     kept_within = omega (arith, kept-at.1, place-within name 32 ms kept-long kept_there)
 
+    -- The same by the pairs as the code reads them.
+    module _ (cs : List (List ℕ)) (are : map pair_in cs ≡ pairs_of ms) where
+      kept_in : among name (map pair_in cs) ≡ true
+      kept_in = rw are kept_there
+
+      pub pair_there : k < length cs
+      pair_there = rw (kept-at.1, ← are) (pair-within name cs kept_in)
+
+      kept_word : (d : List ℕ) → get_or (get_or cs k d) 1 0 ≡ word_of name (pairs_of ms)
+      kept_word d = rw (kept-at.1, ← are) (word-placed name cs d kept_in)
+
     pub drop-done : {after : List ℕ} → after ≡ gap_closed ms (2 * k)
         → (Done ≡ drop_answer name (buffers s e) ms) × (after ≡ after_drop name (buffers s e) ms)
     unfolding drop_answer after_drop
@@ -125,9 +136,10 @@ module _ (name : ℕ) (s e ms : List ℕ) {c : Result ℕ Refusal} (is : c ≡ k
         → (Err r ≡ read_mark_answer name (buffers s e) ms out) × (out ≡ read_mark_output name (buffers s e) ms out)
     read-refuses {r} p = refused r (then ∙ ap (λ (w : Verdict). and_then w (verdict short)) (kept-refused p))
 
-    module _ {k : ℕ} (p : c ≡ Ok k) (count : ℕ) (is-count : count ≡ get_or ms (2 * k + 1) 0 / 2 ^ 51) where
+    module _ {k : ℕ} (p : c ≡ Ok k) (cs : List (List ℕ)) (are : map pair_in cs ≡ pairs_of ms) (d : List ℕ) (count : ℕ)
+        (is-count : count ≡ get_or (get_or cs k d) 1 0 / 2 ^ 51) where
       counted : mark_count name ms ≡ count
-      counted = sym (is-count ∙ rw ((kept-at p).1, word-placed name 32 ms (kept-long p) (kept_there p)))
+      counted = sym (is-count ∙ ap (λ (n : ℕ). n / 2 ^ 51) (kept_word p cs are d))
 
       pub count-within : count ≤ length e
       unfolding head

@@ -59,6 +59,9 @@ found-within name (c ∷ cs) = by_bool (eqb (get_or c 0 0) name)
     (λ t. rw t (lt-ltb 0 (suc (length cs)) (omega arith)))
     (λ f. rw f (both-more (place_of name (map pair_in cs)) (length cs) ∙ found-within name cs))
 
+pub pair-within : (name : ℕ) (cs : List (List ℕ)) → among name (map pair_in cs) ≡ true → place_of name (map pair_in cs) < length cs
+pair-within name cs h = ltb-true (place_of name (map pair_in cs)) (length cs) (found-within name cs ∙ h)
+
 pub position-place : (name : ℕ) (cs : List (List ℕ))
     → cond (ltb (position_or_len (λ two. eqb (get_or two 0 0) name) cs) (length cs)) (Some (position_or_len (λ two. eqb (get_or two 0 0) name) cs)) None
     ≡ place name (map pair_in cs)

@@ -1,10 +1,10 @@
 -- Setting, dropping and reading a mark, by the index of its pair.
-use Rattle.std.specs.Prelude.{ℕ, zero, suc, ◌+◌, ◌*◌, ◌≡◌, refl, true, List, [], ◌∷◌, ◌++◌, eqb, length, get_or, set}
+use Rattle.std.specs.Prelude.{ℕ, zero, suc, ◌+◌, ◌*◌, ◌≡◌, refl, true, List, [], ◌∷◌, ◌++◌, map, eqb, length, get_or, set}
 use Rattle.std.proofs.Common.{arith, ap}
 use Rattle.std.proofs.lemmas.Bool.{false≢true}
 use Rattle.checks.specs.TestLaws.{by_bool}
 use Rattle.chain.specs.Marks.{Pair, pair, pairs_of, words_of, among, word_of, with_mark, without_mark}
-use Rattle.marks.specs.Pairs.{place_of}
+use Rattle.marks.specs.Pairs.{pair_in, place_of}
 use Rattle.marks.specs.Gap.{gap_closed}
 
 words-pairs : (n : ℕ) (ms : List ℕ) → length ms ≡ 2 * n → words_of (pairs_of ms) ≡ ms
@@ -52,13 +52,9 @@ drop-placed name (suc n) (a ∷ b ∷ ms) e h = by_bool (eqb a name)
     (λ t. rw (t, words-end (pairs_of ms), words-pairs n ms (omega arith)))
     (λ t. rw (t, two-more (place_of name (pairs_of ms)), four-more (place_of name (pairs_of ms))) (ap (λ (l : List ℕ). a ∷ b ∷ l) (drop-placed name n ms (omega arith) (rw t at h))))
 
-pub word-placed : (name n : ℕ) (ms : List ℕ) → length ms ≡ 2 * n → among name (pairs_of ms) ≡ true
-    → get_or ms (2 * place_of name (pairs_of ms) + 1) 0 ≡ word_of name (pairs_of ms)
-unfolding pairs_of place_of word_of among
-word-placed name zero [] e h = absurd (false≢true h)
-word-placed name zero (m ∷ ms) e h = absurd (omega arith)
-word-placed name (suc n) [] e h = absurd (omega arith)
-word-placed name (suc n) (m ∷ []) e h = absurd (omega arith)
-word-placed name (suc n) (a ∷ b ∷ ms) e h = by_bool (eqb a name)
-    (λ t. rw t)
-    (λ t. rw (t, two-more (place_of name (pairs_of ms)), three-more (place_of name (pairs_of ms))) (word-placed name n ms (omega arith) (rw t at h)))
+-- By the pairs as the code reads them.
+pub word-placed : (name : ℕ) (cs : List (List ℕ)) (d : List ℕ) → among name (map pair_in cs) ≡ true
+    → get_or (get_or cs (place_of name (map pair_in cs)) d) 1 0 ≡ word_of name (map pair_in cs)
+unfolding place_of word_of among
+word-placed name [] d h = absurd (false≢true h)
+word-placed name (c ∷ cs) d h = by_bool (eqb (get_or c 0 0) name) (λ t. rw t) (λ f. rw f (word-placed name cs d (rw f at h)))

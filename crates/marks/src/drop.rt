@@ -7,7 +7,8 @@ ghost use Rattle.marks.specs.Gap.{gap_closed};
 use crate::pairs::LENGTH;
 use chain::answer::Answer;
 
-// Two words less from one on, and two zero words at the end.
+// Two words less from one on, and two zero words at the end. The words are moved as words: std's `as_chunks_mut` says nothing of what the whole
+// buffer ends as.
 fn close_gap(marks: &mut [u64], from: usize)
     requires long { length marks.old ≡ marks_length }
     requires within { from + 2 ≤ marks_length }

@@ -22,9 +22,7 @@ fn take_on_log(both: &mut Comparison, asked: Asked) -> Answer {
 
 // The rights of clients that have all of them.
 pub fn all_rights(both: &Comparison) -> [u64; rights::LENGTH] {
-    let mut rights = [0; rights::LENGTH];
-    rights::all::grant_all_of(&both.state, &mut rights);
-    rights
+    rights::all::all_of(&both.state)
 }
 
 pub fn take(both: &mut Comparison, asked: Asked) -> Answer {

@@ -14,8 +14,8 @@ pub fn rights_fit(rights: &[u64], count: u64) -> bool
     ensures { result ≡ test (rights_formed count rights.now) }
 {
     let mut ok = true;
-    for i in 0..rights.len() {
-        ok = ok & word_fits(count, i as u64, rights[i]);
+    for (i, &w) in rights.iter().enumerate() {
+        ok = ok & word_fits(count, i as u64, w);
     }
     ok
 }

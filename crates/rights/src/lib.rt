@@ -1,4 +1,5 @@
 // The rights of the clients: a buffer of 16 words, with a bit for each kind of step. They are only read, or made for a caller that passes all.
+// State, entries and rights stay three parameters: a caller in C lends three buffers of its own, whose lengths are tested before any word.
 #![tactic(auto)]
 
 pub mod all;

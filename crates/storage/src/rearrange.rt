@@ -7,7 +7,8 @@ use chain::answer::{Answer, Refusal};
 
 const PLANES: usize = 8;
 
-// Plane j. The first has the most significant bytes.
+// Plane j. The first has the most significant bytes. Each byte is written by its index: after a zip with `iter_mut` std says nothing of
+// what was written.
 fn write_plane(words: &[u64], bytes: &mut [u8], j: usize)
     requires { (j < 8) × (length bytes.old ≡ length words.now) }
     ensures { bytes.new ≡ plane (7 - j) (differences words.now) }

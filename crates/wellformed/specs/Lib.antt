@@ -1,5 +1,6 @@
 pub mod EveryLaws
 pub mod GatheringLaws
+pub mod ListedLaws
 pub mod Parts
 pub mod Rising
 pub mod Lanes
