@@ -18,7 +18,7 @@ fn advise_known(log: &OpenedLog) -> Option<Kind>
     let h = records::head::load_head(log.state);
     let (k, stored) = log.remembered();
     let named = h.named_leader == log.client;
-    table::client_advice(named, k, stored.fenced)
+    table::client_advice(named, k, stored.ledger.fenced)
 }
 
 // The kind of the step to take next, a write's value being the caller's; or that there is none to take.

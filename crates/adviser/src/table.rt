@@ -6,6 +6,7 @@ use chain::kind::Kind;
 use records::client::Client;
 use records::stage::Stage;
 
+// A match and no table by the stage's number: the compiler asks for a kind of each stage, and one stage has two.
 fn stage_advice(stage: Stage, fenced: bool) -> Kind
     ensures { result ≡ stage_advice stage fenced }
 {
@@ -24,8 +25,7 @@ pub fn client_advice(named: bool, client: Client, fenced: bool) -> Option<Kind>
     ensures { result ≡ client_advice named client fenced }
 {
     if named {
-        let stage = client.stage;
-        return Some(stage_advice(stage, fenced));
+        return Some(stage_advice(client.stage, fenced));
     }
     if client.leads {
         Some(Kind::Abdicate)

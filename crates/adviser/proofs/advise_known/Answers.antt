@@ -1,12 +1,10 @@
-use Rattle.chain.specs.Operations.{buffers, held}
 use Rattle.lookup.specs.Opened.{tested-opened}
-use Rattle.lookup.specs.LookupLaws.{leader-is}
+use Rattle.lookup.specs.LookupLaws.{opened-log, leader-is}
 use Rattle.adviser.specs.AdviserLaws.{looked-up}
 use Rattle.adviser.proofs.advise_known.Goals as goal
 
 pub returns : goal.returns
 returns c =
-    let log = c.args.log.now in
+    let o = tested-opened c.args.log.now.opened in
     let k = c.remembered.ensures in
-    looked-up log.client (held (buffers log.state.now log.entries.now)) (leader-is (tested-opened log.opened) c.load_head-h.ensures) k.client
-    k.stored c.client_advice.ensures
+    looked-up _ (opened-log o) (leader-is o c.load_head-h.ensures) k.client k.stored c.client_advice.ensures
