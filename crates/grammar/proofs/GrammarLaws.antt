@@ -3,13 +3,13 @@ use Prim.Native.Nat.{ℕ, suc, ◌+◌, ◌-◌, ◌<◌, ◌≤◌}
 use Prim.Native.Char.{code}
 use native.Mathlib.Omega.{arith}
 use Rattle.std.proofs.Math.Numerals.{add-one}
-use Rattle.std.specs.Prelude.{◌≡◌, ◌==◌, refl, get_or, take, Option, Some, None, position, unwrap_or}
+use Rattle.std.specs.Prelude.{◌≡◌, ◌==◌, refl, get_or, take, Option, Some, None, position}
 use mathlib.Core.List.{List, []}
 use Rattle.std.proofs.Math.ListN.{length, drop, drop_of_length-le, get_or-eq_default}
-use Rattle.std.proofs.Common.{ap, sym, ◌∙◌, length-drop, take_all}
+use Rattle.std.proofs.Common.{length-drop, take_all}
 use borrow.Author.Tests.{ne_eqb}
 use Rattle.text.specs.Decimal.{starts, numeral_of}
-use Rattle.text.specs.Find.{index_of, first-is}
+use Rattle.text.specs.Find.{index_of, place-some, place-none}
 use Rattle.grammar.specs.Grammar.{Request, client_step, write_step, parse_write, parse_line}
 
 -- The part of a slice from n on is all that is left.
@@ -26,22 +26,17 @@ nothing = refl
 
 -- The first space, as the code looks for it.
 module _ (bs : List ℕ) where
-  found : (m : Option ℕ) → m ≡ position (λ b. b == code " ") bs → unwrap_or m (length bs) ≡ index_of (code " ") bs
-  found m e = ap (λ m. unwrap_or m (length bs)) e ∙ first-is (code " ") bs
-
   pub write-no-space : position (λ b. b == code " ") bs ≡ None → ◌≡◌ {A = Request} None (parse_write bs)
   unfolding parse_write
   write-no-space e =
-      let end : length bs ≡ index_of (code " ") bs = found None (sym e) in
-      let none : drop (suc (index_of (code " ") bs)) bs ≡ [] = drop_of_length-le bs {i = suc (index_of (code " ") bs)} (omega (arith, end)) in
+      let none : drop (suc (index_of (code " ") bs)) bs ≡ [] =
+      drop_of_length-le bs {i = suc (index_of (code " ") bs)} (omega (arith, place-none (code " ") bs e)) in
       rw (none, nothing) (no_value (numeral_of (take (index_of (code " ") bs) bs)))
 
   pub write-parts : (space : ℕ) → position (λ b. b == code " ") bs ≡ Some space → (client value : Option ℕ) → client ≡ numeral_of (take space bs)
       → value ≡ numeral_of (take (length bs - (space + 1)) (drop (space + 1) bs)) → write_step client value ≡ parse_write bs
   unfolding parse_write
-  write-parts space e client value c v =
-      let at : space ≡ index_of (code " ") bs = found (Some space) (sym e) in
-      rw (c, v, rest (space + 1) bs, add-one space, at)
+  write-parts space e client value c v = rw (c, v, rest (space + 1) bs, add-one space, (place-some (code " ") bs space e).0)
 
 module _ (bs : List ℕ) where
   pub line-short : length bs < 2 → ◌≡◌ {A = Request} None (parse_line bs)

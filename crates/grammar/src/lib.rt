@@ -1,12 +1,13 @@
 // A line of the session, read as a step.
 #![tactic(auto)]
 
-ghost use Rattle.std.specs.Prelude.{◌≡◌, ◌==◌, position};
+ghost use Rattle.std.specs.Prelude.{◌≡◌};
 ghost use Rattle.grammar.specs.Grammar.{with_client, letter_kind, client_step, write_step, parse_write, parse_line};
 
 use chain::kind::Kind;
 use dispatch::Step;
 use text::decimal::parse_decimal;
+use text::find::first_place;
 
 // A line names clients 0 to 255, whether or not the log has them.
 const CLIENT_NUMBERS: u64 = 256;
@@ -54,17 +55,11 @@ fn write_step(client: Option<u64>, value: Option<u64>) -> Option<Step>
     with_client(client, Some(Step::write(client, value)))
 }
 
-fn first_space(bytes: &[u8]) -> Option<usize>
-    ensures { result ≡ position (λ b. b == 32) bytes.now }
-{
-    bytes.iter().position(|&b| b == b' ')
-}
-
 // What follows the letter W and its space: a client, a space and a value.
 fn parse_write(rest: &[u8]) -> Option<Step>
     ensures { result ≡ parse_write rest.now }
 {
-    let space = first_space(rest)?;
+    let space = first_place(rest, b' ')?;
     let client = parse_decimal(&rest[..space]);
     let value = parse_decimal(&rest[space + 1..]);
     write_step(client, value)
