@@ -1,5 +1,6 @@
-use Rattle.std.proofs.Common.{◌≤◌, ◌+◌, ◌-◌, rules, arith, sym, ◌∙◌, ap, eqb-true, length, drop, length-drop, take_all}
+use Rattle.std.proofs.Common.{◌≤◌, ◌+◌, ◌-◌, rules, arith, sym, ◌∙◌, ap, eqb-true, ◌≡◌, ℕ, true, List, ◌∷◌, length, take, drop, length-drop, take_all}
 use Rattle.std.proofs.lemmas.Bool.{eqb-false}
+use Rattle.requests.specs.Lines.{line, lines}
 use Rattle.requests.specs.LineLaws.{line-ended, line-unended, none-left}
 use Rattle.requests.proofs.input.LinesIterator.next.Goals as goal
 
@@ -12,8 +13,9 @@ pub returns-in-Some-clause-steps : goal.returns-in-Some-clause-steps
 returns-in-Some-clause-steps c =
     let bytes = c.args.self.now.rest.now in
     let next = c.in-Some.end + 1 in
-    rw (take_all (length bytes - next) (drop next bytes) (omega (arith, length-drop next bytes)))
-    (line-ended bytes c.in-Some.end (sym c.first_place.ensures ∙ c.in-Some.is))
+    let all : take (length bytes - next) (drop next bytes) ≡ drop next bytes = take_all _ _ (omega (arith, length-drop next bytes)) in
+    line-ended bytes c.in-Some.end (sym c.first_place.ensures ∙ c.in-Some.is)
+    ∙ ap (λ (rest : List ℕ). line (take c.in-Some.end bytes) true ∷ lines rest) (sym all)
 
 pub returns-in-None-clause-steps : goal.returns-in-None-clause-steps
 returns-in-None-clause-steps c =
