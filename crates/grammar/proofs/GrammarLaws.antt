@@ -2,15 +2,14 @@
 use Prim.Native.Nat.{ℕ, suc, ◌+◌, ◌-◌, ◌<◌, ◌≤◌}
 use Prim.Native.Char.{code}
 use native.Mathlib.Omega.{arith}
-use Rattle.std.proofs.Math.Nat.{sub-zero}
 use Rattle.std.proofs.Math.Numerals.{add-one}
-use Rattle.std.specs.Prelude.{◌≡◌, refl, get_or, take, Option, Some, None}
+use Rattle.std.specs.Prelude.{◌≡◌, ◌==◌, refl, get_or, take, Option, Some, None, position}
 use mathlib.Core.List.{List, []}
 use Rattle.std.proofs.Math.ListN.{length, drop, drop_of_length-le, get_or-eq_default}
 use Rattle.std.proofs.Common.{length-drop, take_all}
 use borrow.Author.Tests.{ne_eqb}
 use Rattle.text.specs.Decimal.{starts, numeral_of}
-use Rattle.text.specs.Find.{index_of}
+use Rattle.text.specs.Find.{index_of, place-some, place-none}
 use Rattle.grammar.specs.Grammar.{Request, client_step, write_step, parse_write, parse_line}
 
 -- The part of a slice from n on is all that is left.
@@ -25,20 +24,19 @@ nothing : numeral_of [] ≡ None
 unfolding numeral_of starts
 nothing = refl
 
-module _ (bs : List ℕ) (space : ℕ) (found : space ≡ 0 + index_of (code " ") bs) where
-  first : index_of (code " ") bs ≡ space
-  first = omega arith
-
-  pub write-no-space : space ≡ length bs → ◌≡◌ {A = Request} None (parse_write bs)
+-- The first space, as the code looks for it.
+module _ (bs : List ℕ) where
+  pub write-no-space : position (λ b. b == code " ") bs ≡ None → ◌≡◌ {A = Request} None (parse_write bs)
   unfolding parse_write
-  write-no-space end =
-      let none : drop (suc space) bs ≡ [] = drop_of_length-le bs {i = suc space} (omega arith) in
-      rw (first, none, nothing) (no_value (numeral_of (take space bs)))
+  write-no-space e =
+      let none : drop (suc (index_of (code " ") bs)) bs ≡ [] =
+      drop_of_length-le bs {i = suc (index_of (code " ") bs)} (omega (arith, place-none (code " ") bs e)) in
+      rw (none, nothing) (no_value (numeral_of (take (index_of (code " ") bs) bs)))
 
-  pub write-parts : (client value : Option ℕ) → client ≡ numeral_of (take (space - 0) bs)
+  pub write-parts : (space : ℕ) → position (λ b. b == code " ") bs ≡ Some space → (client value : Option ℕ) → client ≡ numeral_of (take space bs)
       → value ≡ numeral_of (take (length bs - (space + 1)) (drop (space + 1) bs)) → write_step client value ≡ parse_write bs
   unfolding parse_write
-  write-parts client value c v = rw (c, v, sub-zero space, rest (space + 1) bs, add-one space, first)
+  write-parts space e client value c v = rw (c, v, rest (space + 1) bs, add-one space, (place-some (code " ") bs space e).0)
 
 module _ (bs : List ℕ) where
   pub line-short : length bs < 2 → ◌≡◌ {A = Request} None (parse_line bs)

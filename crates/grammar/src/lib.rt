@@ -7,7 +7,7 @@ ghost use Rattle.grammar.specs.Grammar.{with_client, letter_kind, client_step, w
 use chain::kind::Kind;
 use dispatch::Step;
 use text::decimal::parse_decimal;
-use text::find::index_from;
+use text::find::first_place;
 
 // A line names clients 0 to 255, whether or not the log has them.
 const CLIENT_NUMBERS: u64 = 256;
@@ -19,7 +19,8 @@ fn with_client(client: u64, step: Option<Step>) -> Option<Step>
     if client < CLIENT_NUMBERS { step } else { None }
 }
 
-// The kind of a step that brings nothing.
+// The kind of a step that brings nothing. A function and no `TryFrom`: `Kind` is of `chain`, so the impl would need a type of its own for
+// the letter, and an error that no caller reads: `parse_line` answers none of a bad line.
 #[tactic(auto, unfolding(crate::specs::Grammar::letter_kind))]
 fn letter_kind(letter: u8) -> Option<Kind>
     ensures { result ≡ letter_kind letter }
@@ -58,11 +59,8 @@ fn write_step(client: Option<u64>, value: Option<u64>) -> Option<Step>
 fn parse_write(rest: &[u8]) -> Option<Step>
     ensures { result ≡ parse_write rest.now }
 {
-    let space = index_from(rest, 0, b' ');
-    if space == rest.len() {
-        return None;
-    }
-    let client = parse_decimal(&rest[0..space]);
+    let space = first_place(rest, b' ')?;
+    let client = parse_decimal(&rest[..space]);
     let value = parse_decimal(&rest[space + 1..]);
     write_step(client, value)
 }
@@ -71,15 +69,14 @@ fn parse_write(rest: &[u8]) -> Option<Step>
 pub fn parse_line(line: &[u8]) -> Option<Step>
     ensures { result ≡ parse_line line.now }
 {
-    if line.len() < 2 {
+    let [letter, space, rest @ ..] = line else {
+        return None;
+    };
+    if *space != b' ' {
         return None;
     }
-    if line[1] != b' ' {
-        return None;
+    if *letter == b'W' {
+        return parse_write(rest);
     }
-    if line[0] == b'W' {
-        return parse_write(&line[2..]);
-    }
-    let client = parse_decimal(&line[2..]);
-    client_step(line[0], client)
+    client_step(*letter, parse_decimal(rest))
 }

@@ -6,6 +6,8 @@ ghost use Rattle.replies.specs.Replies.{entry_text, entries_text, chain_line};
 use records::entry::CLIENT_UNIT;
 use text::writer::Writer;
 
+// The fields by hand and not by `Entry::of_word`: `entry_text` takes all above the value for the client, and `of_word` four bits. The two
+// are the same only of a word without a ledger, as those of the chain reading are, and `put_chain_line` is passed any words.
 fn put_entry(to: &mut Writer, word: u64)
     requires { Room to.old.text.now to.old.at (entry_text word) }
     ensures puts { Puts to.old.text.now to.old.at (entry_text word) to.new.text.now to.new.at }

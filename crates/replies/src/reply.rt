@@ -1,9 +1,12 @@
 // A numbered line: what a step answered, or that the line was bad.
-ghost use Rattle.std.specs.Prelude.{◌≡◌};
+ghost use Rattle.std.specs.Prelude.{◌≡◌, ◌++◌};
+ghost use Rattle.text.specs.Bytes.{bytes};
+ghost use Rattle.text.specs.Decimal.{decimal};
 ghost use Rattle.text.specs.Puts.{Puts, Room};
+ghost use Rattle.chain.specs.Answers.{refusal_number};
 ghost use Rattle.replies.specs.Replies.{position_text, answer_text, reply_text, reply_line};
 
-use chain::answer::{Answer, Position};
+use chain::answer::{Answer, Position, Refusal};
 use text::writer::Writer;
 
 fn put_position(to: &mut Writer, p: Position)
@@ -13,6 +16,14 @@ fn put_position(to: &mut Writer, p: Position)
 {
     to.put_counted(b"entry ", p.number.0);
     to.put_counted(b" place ", p.place.0);
+}
+
+fn put_refusal(to: &mut Writer, r: Refusal)
+    requires { Room to.old.text.now to.old.at (bytes "ref " ++ decimal (refusal_number r)) }
+    ensures puts { Puts to.old.text.now to.old.at (bytes "ref " ++ decimal (refusal_number r)) to.new.text.now to.new.at }
+    ensures same_text { to.new.text.ghost_name ≡ to.old.text.ghost_name }
+{
+    to.put_counted(b"ref ", u64::from(r));
 }
 
 fn put_answer(to: &mut Writer, answer: Answer)
@@ -25,7 +36,7 @@ fn put_answer(to: &mut Writer, answer: Answer)
         Answer::WasClosed => to.put_phrase(b"was"),
         Answer::Behind => to.put_phrase(b"behind"),
         Answer::Written(p) => put_position(to, p),
-        Answer::Refused(r) => to.put_counted(b"ref ", u64::from(r)),
+        Answer::Refused(r) => put_refusal(to, r),
     }
 }
 

@@ -1,4 +1,5 @@
 pub mod Lines
+pub mod Views
 pub mod LineLaws
 pub mod Requests
 pub mod Turns

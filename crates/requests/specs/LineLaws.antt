@@ -1,9 +1,9 @@
 -- The lines of an input, one after the other: what a loop that looks for byte 10 meets.
-use Rattle.std.specs.Prelude.{ℕ, suc, ◌+◌, ◌-◌, ◌<◌, ◌≤◌, ◌≡◌, refl, true, false, List, [], ◌∷◌, length, take, drop, eqb, ltb}
-use Rattle.std.proofs.Common.{arith, sym, ap, ◌∙◌, length-drop, drop-cons, drop-drop, drop_of_length-le, lt-ltb, le-ltb}
+use Rattle.std.specs.Prelude.{ℕ, suc, ◌+◌, ◌-◌, ◌<◌, ◌≤◌, ◌≡◌, ◌==◌, refl, true, false, List, [], ◌∷◌, length, take, drop, eqb, ltb, position, Some, None}
+use Rattle.std.proofs.Common.{arith, sym, ap, ◌∙◌, add-one, length-drop, drop-drop, drop_of_length-le, take_all, lt-ltb, le-ltb}
 use Rattle.std.proofs.Math.Decide.{dec_lt}
 use Rattle.checks.specs.TestLaws.{by_bool}
-use Rattle.text.specs.Find.{index_of}
+use Rattle.text.specs.Find.{index_of, place-some, place-none}
 use Rattle.requests.specs.Lines.{Line, line, longer, lines}
 
 less_both : (a b : ℕ) → ltb (suc a) (suc b) ≡ ltb a b
@@ -51,29 +51,20 @@ next-line bs i end l e =
       | no x ↦ le-ltb k (length (drop i bs)) (omega (arith, h, x, length-drop i bs)) ∙ sym (le-ltb end (length bs) (omega arith))
     ]
 
--- The first line, cut off where it ends: by the byte that ends it and what follows it, or as the last line.
-module _ (bs : List ℕ) (end : ℕ) (some : 1 ≤ length bs) (ends : end ≡ 0 + index_of 10 bs) where
-  here : index_of 10 bs ≡ end
-  here = omega (arith, ends)
+-- The first line, by the place of the byte that ends it, or as the last line.
+module _ (bs : List ℕ) where
+  pub line-ended : (end : ℕ) → position (λ b. b == 10) bs ≡ Some end → lines bs ≡ line (take end bs) true ∷ lines (drop (end + 1) bs)
+  line-ended end e =
+      let p = place-some 10 bs end e in
+      let here : index_of 10 bs ≡ end = sym p.0 in
+      rw (here, lt-ltb end (length bs) p.1, ← add-one end) at (first-line bs (omega (arith, p.1)))
 
-  cut : lines bs ≡ line (take end bs) (ltb end (length bs)) ∷ lines (drop (suc end) bs)
-  cut = rw here at (first-line bs some)
-
-  pub cut-ended : (b : ℕ) (rest : List ℕ) → drop end bs ≡ b ∷ rest → lines bs ≡ line (take end bs) true ∷ lines rest
-  cut-ended b rest e =
-      let size = ap (length {A = ℕ}) e in
-      let within : end < length bs = omega (arith, length-drop end bs, size) in
-      let both = sym (drop-cons bs end 0 within) ∙ e in
-      let after : drop (suc end) bs ≡ rest = cc in
-      rw (lt-ltb end (length bs) within, after) at cut
-
-  pub cut-last : (rest : List ℕ) → rest ≡ drop end bs → length rest ≡ 0 → lines bs ≡ line (take end bs) false ∷ lines rest
-  cut-last rest e z =
-      let size = ap (length {A = ℕ}) e in
-      let past : length bs ≤ end = omega (arith, length-drop end bs, size, z) in
-      let more : length bs ≤ suc end = omega (arith, past) in
-      let none : drop (suc end) bs ≡ rest = drop_of_length-le bs more ∙ sym (drop_of_length-le bs past) ∙ sym e in
-      rw (le-ltb end (length bs) past, none) at cut
+  pub line-unended : 1 ≤ length bs → position (λ b. b == 10) bs ≡ None → lines bs ≡ line bs false ∷ lines []
+  line-unended some e =
+      let here : index_of 10 bs ≡ length bs = sym (place-none 10 bs e) in
+      let none : drop (suc (length bs)) bs ≡ [] = drop_of_length-le bs {i = suc (length bs)} (omega arith) in
+      let all : take (length bs) bs ≡ bs = take_all (length bs) bs (omega arith) in
+      rw (here, le-ltb (length bs) (length bs) (omega arith), none, all) at (first-line bs some)
 
 pub none-left : (bs : List ℕ) → length bs ≡ 0 → lines bs ≡ []
 unfolding lines

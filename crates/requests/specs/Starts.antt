@@ -1,11 +1,11 @@
 -- How the code finds out how an input opens.
 use Prim.Native.Nat.{ℕ, ◌+◌, ◌-◌, ◌<◌, ◌≤◌}
 use Rattle.std.proofs.Common.{arith, sym, subst, ◌∙◌}
-use Rattle.std.specs.Prelude.{◌≡◌, List, [], ◌∷◌, length, take, drop, ltb, Option, Some, None, Result, Ok, Err, ok_or}
+use Rattle.std.specs.Prelude.{◌≡◌, ◌==◌, true, List, [], ◌∷◌, ◌++◌, length, take, drop, ltb, position, Option, Some, None, Result, Ok, Err, ok_or}
 use Rattle.std.proofs.Math.Path.{refl, ap}
-use borrow.Author.Tests.{le-ltb, ltb-true}
+use borrow.Author.Tests.{lt-ltb, le-ltb, ltb-true}
 use Rattle.text.specs.Bytes.{bytes}
-use Rattle.text.specs.Find.{index_of}
+use Rattle.text.specs.Find.{index_of, place-some, place-none}
 use Rattle.checks.specs.TestLaws.{by_bool}
 use Rattle.checks.specs.ResultLaws.{ok-err}
 use Rattle.limits.specs.Limits.{client_limit, input_limit}
@@ -33,10 +33,18 @@ Opens input (Err TooLong) = opening input ≡ too_long
 Opens input (Err BadStart) = opening input ≡ bad_start
 Opens input (Ok b) = Begun input b.clients b.from
 
--- What is printed of each.
+-- What is printed of each: some words, and the byte that ends them.
+abbrev pub error_words : StartError → List ℕ
+error_words TooLong = bytes "too long"
+error_words BadStart = bytes "bad start"
+
 abbrev pub error_line : StartError → List ℕ
 error_line TooLong = bytes "too long\n"
 error_line BadStart = bytes "bad start\n"
+
+pub ended-words : (e : StartError) → error_words e ++ (10 ∷ []) ≡ error_line e
+ended-words TooLong = refl
+ended-words BadStart = refl
 
 module _ (session_text : ℕ → List Line → List ℕ) (input : List ℕ) (s : Start) (o : Opens input s) where
   pub prints-error : (e : StartError) → s ≡ Err e → printed session_text (opening input) ≡ error_line e
@@ -86,6 +94,28 @@ module _ (input : List ℕ) (small : length input ≤ input_limit) (end : ℕ) (
       within = omega (arith, ended);
       small = small;
     }
+
+-- The same by the place of the byte that ends the line: without one there is no session.
+module _ (input : List ℕ) (small : length input ≤ input_limit) where
+  unended : (bs : List ℕ) → None ≡ client_count (line bs (ltb (length input) (length input)))
+  unfolding client_count
+  unended bs = rw (le-ltb (length input) (length input) (omega arith)) refl
+
+  pub not-ended : position (λ b. b == 10) input ≡ None → opening input ≡ bad_start
+  not-ended e = bad-start input small (length input) (omega (arith, place-none 10 input e)) None (unended (take (length input) input)) refl
+
+  module _ (end : ℕ) (ends : position (λ b. b == 10) input ≡ Some end) (m : Option ℕ) (counted : m ≡ client_count (line (take end input) true)) where
+    place : (end ≡ index_of 10 input) × (end < length input)
+    place = place-some 10 input end ends
+
+    told : m ≡ client_count (line (take end input) (ltb end (length input)))
+    told = rw (lt-ltb end (length input) place.1) counted
+
+    pub bad-count : m ≡ None → opening input ≡ bad_start
+    bad-count = bad-start input small end (omega (arith, place.0)) m told
+
+    pub good-count : (n : ℕ) → m ≡ Some n → Begun input n (end + 1)
+    good-count = good_start input small end (omega (arith, place.0)) m told
 
 -- A count that was looked for, as its Result.
 pub found-none : (m : Option ℕ) (r : Result ℕ StartError) (e : StartError) → r ≡ ok_or m BadStart → r ≡ Err e → (m ≡ None) × (e ≡ BadStart)

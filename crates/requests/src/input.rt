@@ -1,17 +1,18 @@
 // The lines of an input, one after the other.
 ghost use Rattle.std.specs.Prelude.{◌≡◌};
 ghost use Rattle.std.specs.Iterator.{YieldsFirstBy, item_count};
-ghost use Rattle.requests.specs.Lines.{line, lines};
+ghost use Rattle.requests.specs.Lines.{lines};
+ghost use Rattle.requests.specs.Views.{line_of};
 
-// The bytes of a line, and whether byte 10 follows them.
-#[derive(Clone, Copy, Drop)]
-pub struct Line<'a> {
-    pub content: &'a [u8],
-    pub ended: bool,
+// The bytes of a line: byte 10 follows them, or the input ends.
+#[derive(Clone, Copy, Debug, PartialEq, Eq, Drop)]
+pub enum Line<'a> {
+    Ended(&'a [u8]),
+    Unended(&'a [u8]),
 }
 
 // The lines that are left.
-#[derive(Clone, Copy, Drop)]
+#[derive(Clone, Copy, Debug, PartialEq, Eq, Drop)]
 pub struct Lines<'a> {
     rest: &'a [u8],
 }
@@ -27,7 +28,7 @@ impl<'a> Lines<'a> {
 impl<'a> Iterator for Lines<'a> {
     type Item = Line<'a>;
 
-    ghost next_gives = { YieldsFirstBy (λ l. line l.content.now l.ended) (λ s. lines s.rest.now) };
+    ghost next_gives = { YieldsFirstBy line_of (λ s. lines s.rest.now) };
 
     ghost remaining = { item_count (λ s. lines s.rest.now) };
 
@@ -35,22 +36,15 @@ impl<'a> Iterator for Lines<'a> {
         if self.rest.is_empty() {
             return None;
         }
-        let end = text::find::index_from(self.rest, 0, crate::LINE_END);
-        let (content, after) = self.rest.split_at(end);
-        match after.split_first() {
-            Some((_, rest)) => {
-                self.rest = rest;
-                Some(Line {
-                    content,
-                    ended: true,
-                })
+        let bytes = self.rest;
+        match text::find::first_place(bytes, crate::LINE_END) {
+            Some(end) => {
+                self.rest = &bytes[end + 1..];
+                Some(Line::Ended(&bytes[..end]))
             }
             None => {
-                self.rest = after;
-                Some(Line {
-                    content,
-                    ended: false,
-                })
+                self.rest = &[];
+                Some(Line::Unended(bytes))
             }
         }
     }

@@ -3,7 +3,8 @@
 
 pub mod input;
 pub mod line;
+pub mod printed;
 pub mod start;
 
 // The byte that ends a line.
-pub const LINE_END: u8 = 10;
+pub const LINE_END: u8 = b'\n';

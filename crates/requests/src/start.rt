@@ -1,8 +1,8 @@
 // The start of an input: its length and its first line.
-ghost use Rattle.std.specs.Prelude.{◌≡◌};
+ghost use Rattle.std.specs.Prelude.{◌≡◌, true};
 ghost use Rattle.requests.specs.Lines.{line};
 ghost use Rattle.requests.specs.Opening.{client_count};
-ghost use Rattle.requests.specs.Starts.{error_line, Opens};
+ghost use Rattle.requests.specs.Starts.{error_words, Opens};
 
 use limits::{CLIENT_LIMIT, INPUT_LIMIT, LARGE_CAPACITY};
 use std::error::Error;
@@ -26,36 +26,30 @@ pub enum StartError {
 }
 
 impl StartError {
-    // The line that is printed in place of a session.
-    pub fn line(self) -> &'static [u8]
-        ensures { result.now ≡ error_line self }
+    // What is printed in place of a session.
+    pub fn words(self) -> &'static str
+        ensures { result.now ≡ error_words self }
     {
         match self {
-            StartError::TooLong => b"too long\n",
-            StartError::BadStart => b"bad start\n",
+            StartError::TooLong => "too long",
+            StartError::BadStart => "bad start",
         }
     }
 }
 
 impl fmt::Display for StartError {
     fn fmt<W: fmt::Write>(&self, f: &mut fmt::Formatter<W>) -> fmt::Result {
-        match self {
-            StartError::TooLong => write!(f, "too long"),
-            StartError::BadStart => write!(f, "bad start"),
-        }
+        f.write_str(self.words())
     }
 }
 
 impl Error for StartError {}
 
-// The client count of a first line.
+// The client count of a first line, which comes without the byte that ends it.
 #[tactic(auto, unfolding(crate::specs::Opening::client_count))]
-fn client_count(bytes: &[u8], ended: bool) -> Option<u64>
-    ensures { result ≡ client_count (line bytes.now ended) }
+fn client_count(bytes: &[u8]) -> Option<u64>
+    ensures { result ≡ client_count (line bytes.now true) }
 {
-    if !ended {
-        return None;
-    }
     text::decimal::parse_decimal(bytes).filter(|n| 0 < *n && *n <= CLIENT_LIMIT)
 }
 
@@ -65,8 +59,8 @@ pub fn start_of(input: &[u8]) -> Result<Beginning, StartError>
     if INPUT_LIMIT < input.len() {
         return Err(StartError::TooLong);
     }
-    let end = text::find::index_from(input, 0, crate::LINE_END);
-    let clients = client_count(&input[..end], end < input.len()).ok_or(StartError::BadStart)?;
+    let end = text::find::first_place(input, crate::LINE_END).ok_or(StartError::BadStart)?;
+    let clients = client_count(&input[..end]).ok_or(StartError::BadStart)?;
     Ok(Beginning {
         clients,
         from: end + 1,

@@ -7,7 +7,6 @@ ghost use Rattle.sentences.specs.Read.{begins, client_of, read_sentence};
 
 use crate::answer::SentenceNumbers;
 use crate::phrase::{name, names, reasons};
-use text::phrase::is_phrase;
 
 // The step whose name begins the text. No name begins another, so the first is the only one.
 fn step_of(bytes: &[u8]) -> Option<usize>
@@ -20,7 +19,7 @@ fn step_of(bytes: &[u8]) -> Option<usize>
 fn reason_place(bytes: &[u8]) -> Option<usize>
     ensures { result ≡ position (same_bytes bytes.now) reasons }
 {
-    reasons().iter().position(|reason| is_phrase(bytes, reason))
+    reasons().iter().position(|reason| bytes == *reason)
 }
 
 // The client that a numeral names, if there may be one.

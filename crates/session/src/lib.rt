@@ -8,16 +8,13 @@ pub mod start;
 ghost use Rattle.std.specs.Prelude.{◌≡◌};
 ghost use Rattle.session.specs.Transcript.{transcript_answer, transcript_text};
 
+use crate::start::Transcript;
 use limits::TRANSCRIPT_LIMIT;
 use text::lent::TextTooShort;
 
-// Nothing is written before it is known that every transcript fits.
 pub fn transcript(input: &[u8], text: &mut [u8]) -> Result<usize, TextTooShort>
     ensures answer { result ≡ transcript_answer input.now text.old }
     ensures text { text.new ≡ transcript_text input.now text.old }
 {
-    if text.len() < TRANSCRIPT_LIMIT {
-        return Err(TextTooShort);
-    }
-    Ok(crate::start::put_transcript(input, text))
+    requests::printed::put_printed::<TRANSCRIPT_LIMIT, Transcript>(input, text)
 }

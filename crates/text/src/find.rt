@@ -2,7 +2,7 @@
 ghost use Rattle.std.specs.Prelude.{◌≡◌, ◌+◌, ◌≤◌, ◌==◌, ℕ, length, drop, position};
 ghost use Rattle.text.specs.Find.{index_of};
 
-fn first_place(text: &[u8], byte: u8) -> Option<usize>
+pub fn first_place(text: &[u8], byte: u8) -> Option<usize>
     ensures { result ≡ position (λ b. b == byte) text.now }
 {
     text.iter().position(|&b| b == byte)

@@ -8,16 +8,13 @@ pub mod start;
 ghost use Rattle.std.specs.Prelude.{◌≡◌};
 ghost use Rattle.total.specs.Output.{output_answer, output_text};
 
+use crate::start::Output;
 use limits::RUN_TOTAL_LIMIT;
 use text::lent::TextTooShort;
 
-// Nothing is written before it is known that every output fits.
 pub fn run_total(input: &[u8], text: &mut [u8]) -> Result<usize, TextTooShort>
     ensures answer { result ≡ output_answer input.now text.old }
     ensures text { text.new ≡ output_text input.now text.old }
 {
-    if text.len() < RUN_TOTAL_LIMIT {
-        return Err(TextTooShort);
-    }
-    Ok(crate::start::put_output(input, text))
+    requests::printed::put_printed::<RUN_TOTAL_LIMIT, Output>(input, text)
 }

@@ -1,4 +1,4 @@
-// The whole output: the listed ledgers of a session, their total and the rounded total, or one line that says why there is no session.
+// The run total of a session: its listed ledgers, their total and the rounded total.
 ghost use Rattle.std.specs.Prelude.{◌≡◌, ◌≤◌, length, drop};
 ghost use Rattle.limits.specs.Limits.{input_limit};
 ghost use Rattle.text.specs.Puts.{Puts, Room};
@@ -6,12 +6,11 @@ ghost use Rattle.chain.specs.Operations.{buffers, after_steps, IsLog};
 ghost use Rattle.totals.specs.Totals.{run_total};
 ghost use Rattle.requests.specs.Lines.{lines};
 ghost use Rattle.requests.specs.Requests.{taken};
-ghost use Rattle.requests.specs.Starts.{Begun};
-ghost use Rattle.total.specs.Output.{end_of, log_text, session_total, output};
+ghost use Rattle.total.specs.Output.{end_of, log_text};
 
-use records::layout::STATE_LENGTH;
 use requests::input::Lines;
-use requests::start::{Beginning, CAPACITY};
+use requests::printed::SessionText;
+use requests::start::Beginning;
 use text::writer::Writer;
 
 // Takes the lines from a place of the input on.
@@ -48,40 +47,22 @@ fn put_log(state: &[u64], entries: &[u64], to: &mut Writer)
     put_total(state, entries, to);
 }
 
-// A session on a log of its own, in which each client has all its rights.
-fn put_session(input: &[u8], beginning: Beginning, to: &mut Writer)
-    requires begun { Begun input.now beginning.clients beginning.from }
-    requires room { Room to.old.text.now to.old.at (session_total beginning.clients (lines (drop beginning.from input.now))) }
-    ensures puts { Puts to.old.text.now to.old.at
-        (session_total beginning.clients (lines (drop beginning.from input.now))) to.new.text.now to.new.at }
-    ensures same_text { to.new.text.ghost_name ≡ to.old.text.ghost_name }
-{
-    let mut state = [0u64; STATE_LENGTH];
-    let mut entries = [0u64; CAPACITY];
-    let mut rights = [0u64; rights::LENGTH];
-    fresh::fresh(&mut state, &mut entries, beginning.clients);
-    rights::all::grant_all(&mut rights, beginning.clients);
-    run_lines(input, beginning.from, &mut state, &mut entries, &rights);
-    put_log(&state, &entries, to);
-}
+pub struct Output;
 
-fn put_all(input: &[u8], to: &mut Writer)
-    requires { Room to.old.text.now to.old.at (output input.now) }
-    ensures puts { Puts to.old.text.now to.old.at (output input.now) to.new.text.now to.new.at }
-    ensures same_text { to.new.text.ghost_name ≡ to.old.text.ghost_name }
-{
-    match requests::start::start_of(input) {
-        Ok(beginning) => put_session(input, beginning, to),
-        Err(why) => to.put_phrase(why.line()),
+impl SessionText for Output {
+    ghost use Rattle.total.specs.Output.{session_total};
+
+    ghost session_text = { session_total };
+
+    fn put(
+        input: &[u8],
+        beginning: Beginning,
+        state: &mut [u64],
+        entries: &mut [u64],
+        rights: &[u64],
+        to: &mut Writer,
+    ) {
+        run_lines(input, beginning.from, state, entries, rights);
+        put_log(state, entries, to);
     }
-}
-
-// The output from the first byte of a text on, and where it ends.
-pub fn put_output(input: &[u8], text: &mut [u8]) -> usize
-    requires { Room text.old 0 (output input.now) }
-    ensures { Puts text.old 0 (output input.now) text.new result }
-{
-    let mut to = Writer { text, at: 0 };
-    put_all(input, &mut to);
-    to.at
 }
