@@ -4,7 +4,7 @@ ghost use Rattle.chain.specs.Operations.{buffers};
 ghost use Rattle.totals.specs.Totals.{ledger_sum};
 
 use crate::answer::LedgerSum;
-use chain::answer::{Answer, Refusal};
+use chain::answer::Refusal;
 use records::numbers::LedgerNumber;
 
 pub fn ledger_sum(
@@ -14,8 +14,7 @@ pub fn ledger_sum(
 ) -> Result<LedgerSum, Refusal>
     ensures { result ≡ ledger_sum ledger.0 (buffers state.now entries.now) }
 {
-    readers::read_ledger::read_verdict(state, entries, ledger)?;
-    let part = readers::read_ledger::answered_part(state, entries, ledger, Answer::Done);
+    let part = readers::read_ledger::part(state, entries, ledger)?;
     let sum = crate::sums::sum_of(part);
     Ok(LedgerSum {
         entries: part.len() as u64,

@@ -7,8 +7,9 @@ ghost use Rattle.readers.specs.Along.{chain_words};
 
 use crate::words::Words;
 use readers::log::Log;
-use records::entry::CLIENT_UNIT;
+use records::entry::Entry;
 use records::numbers::ReadingPlace;
+use records::packed::Packed;
 
 // The sum is kept from one start to the next: the first value is taken off, and the walk over the words goes on where it was. Both loops
 // are left by the label 'starts, as docs/DECISIONS.md, "Forms", says, and `held` falls again at each start, so that no range counts it.
@@ -26,14 +27,15 @@ pub fn first_over(log: Log<'_>, length: u64, limit: u64) -> Option<ReadingPlace>
             let Some(word) = past.next() else {
                 break 'starts;
             };
-            sum += word % CLIENT_UNIT;
+            let entry = Entry::of_word(word);
+            sum += entry.value;
             held += 1;
         }
         if limit < sum {
             answer = Some(ReadingPlace(start as u64));
             break 'starts;
         }
-        sum -= first % CLIENT_UNIT;
+        sum -= Entry::of_word(first).value;
         held -= 1;
     }
     answer

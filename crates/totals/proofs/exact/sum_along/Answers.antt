@@ -7,7 +7,7 @@ use Rattle.totals.proofs.exact.sum_along.Goals as goal
 pub loop-part-init : goal.loop-part-init
 loop-part-init c =
     let args = c.args in
-    let all : parts c.into_iter-part-iterator.result.places.now c.into_iter-part-iterator.result.words.now ≡ chain_parts args.log.state.now args.log.entries.now args.log.head =
+    let all : parts c.into_iter-part-iterator.result.places.now c.into_iter-part-iterator.result.used.words.now ≡ chain_parts args.log.state.now args.log.entries.now args.log.head =
     rw c.into_iter-part-iterator.ensures.into_iter_gives c.of-part-items.ensures in
     rw all (carry-start args.log.state.now args.log.entries.now args.log.head (log-known args.log) c.requires)
 

@@ -4,4 +4,4 @@ use Rattle.totals.proofs.exact.sum_along.Given as goal
 
 abbrev pub invariant-loop-part : goal.invariant-loop-part
 invariant-loop-part l =
-    Carried (parts l.part-iterator.places.now l.part-iterator.words.now) (chain_parts l.log.state.now l.log.entries.now l.log.head) l.ones l.parts
+    Carried (parts l.part-iterator.places.now l.part-iterator.used.words.now) (chain_parts l.log.state.now l.log.entries.now l.log.head) l.ones l.parts
