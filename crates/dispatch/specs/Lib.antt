@@ -1,3 +1,4 @@
 pub mod Dispatch
+pub mod Lent
 pub mod Results
 pub mod SummingLaws

@@ -1,11 +1,11 @@
 // The forecast: what a run would add, found by the runner on a copy, so that neither buffer changes.
-ghost use Rattle.std.specs.Prelude.{◌≡◌, ◌≤◌, length};
-ghost use Rattle.chain.specs.Buffers.{head};
-ghost use Rattle.chain.specs.Operations.{buffers, IsLog};
-ghost use Rattle.dispatch.specs.Results.{IsRights};
+ghost use Rattle.std.specs.Prelude.{◌≡◌, true, length};
+ghost use Rattle.chain.specs.Operations.{buffers};
+ghost use Rattle.dispatch.specs.Lent.{lent_test};
 ghost use Rattle.plans.specs.Runs.{Counted, Foretells};
 
 use crate::run::Run;
+use dispatch::log_mut::LogMut;
 use limits::LARGE_CAPACITY;
 use records::layout::STATE_LENGTH;
 
@@ -16,7 +16,7 @@ pub struct Forecast {
     pub refusals: u64,
 }
 
-// The run on other words, which are made the log's first.
+// The run on other words, which are made the log's first. What is lent here is only read, so it is no LogMut yet.
 fn run_copied(
     own_state: &mut [u64],
     own_entries: &mut [u64],
@@ -27,31 +27,17 @@ fn run_copied(
 ) -> Run
     requires states { length own_state.old ≡ length state.now }
     requires capacity { length own_entries.old ≡ length entries.now }
-    requires log { IsLog (buffers state.now entries.now) }
-    requires rights { IsRights (head state.now).client_count rights.now }
+    requires lent { lent_test rights.now (buffers state.now entries.now) ≡ true }
     ensures { Counted rights.now plan.now (buffers state.now entries.now) result }
 {
     own_state.copy_from_slice(state);
     own_entries.copy_from_slice(entries);
-    crate::run::run_on_log(own_state, own_entries, rights, plan)
-}
-
-fn on_a_copy(state: &[u64], entries: &[u64], rights: &[u64], plan: &[u64]) -> Run
-    requires log { IsLog (buffers state.now entries.now) }
-    requires rights { IsRights (head state.now).client_count rights.now }
-    ensures { Counted rights.now plan.now (buffers state.now entries.now) result }
-{
-    let mut own_state = [0u64; STATE_LENGTH];
-    let mut own_entries = [0u64; LARGE_CAPACITY];
-    let capacity = entries.len();
-    run_copied(
-        &mut own_state,
-        &mut own_entries[..capacity],
-        state,
-        entries,
+    let mut log = LogMut {
+        state: own_state,
+        entries: own_entries,
         rights,
-        plan,
-    )
+    };
+    crate::run::take_words(&mut log, plan)
 }
 
 pub fn forecast_plan(
@@ -71,8 +57,12 @@ pub fn forecast_plan(
             refusals: end as u64,
         },
         Ok(()) => {
+            let mut own_state = [0u64; STATE_LENGTH];
+            let mut own_entries = [0u64; LARGE_CAPACITY];
+            let capacity = entries.len();
+            let own = &mut own_entries[..capacity];
+            let run = run_copied(&mut own_state, own, state, entries, rights, &plan[..end]);
             // Field by field, in this one place: a From<Run> would list the three in its body and again in its ghost member.
-            let run = on_a_copy(state, entries, rights, &plan[..end]);
             Forecast {
                 entries: run.entries,
                 ledgers: run.ledgers,
