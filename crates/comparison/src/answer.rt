@@ -1,22 +1,22 @@
 // An answer of the log or of the model, so that the two can be compared.
-use chain::answer as log;
+use chain::answer::Answer as LogAnswer;
 use model::answer::{Answer, Refusal};
 
 // What was answered, in the model's words. A refusal is its number in the reference, since the log has more of them than the model.
 #[derive(Clone, Copy, Debug, PartialEq, Eq)]
 pub struct Said(pub Result<Answer, u64>);
 
-impl From<log::Answer> for Said {
-    fn from(answer: log::Answer) -> Said {
+impl From<LogAnswer> for Said {
+    fn from(answer: LogAnswer) -> Said {
         Said(match answer {
-            log::Answer::Done => Ok(Answer::Done),
-            log::Answer::WasClosed => Ok(Answer::WasClosed),
-            log::Answer::Behind => Ok(Answer::Behind),
-            log::Answer::Written(at) => Ok(Answer::Written {
+            LogAnswer::Done => Ok(Answer::Done),
+            LogAnswer::WasClosed => Ok(Answer::WasClosed),
+            LogAnswer::Behind => Ok(Answer::Behind),
+            LogAnswer::Written(at) => Ok(Answer::Written {
                 number: at.number.0,
                 place: at.place.0,
             }),
-            log::Answer::Refused(r) => Err(u64::from(r)),
+            LogAnswer::Refused(r) => Err(u64::from(r)),
         })
     }
 }
