@@ -2,8 +2,6 @@
 ghost use Rattle.std.specs.Prelude.{◌≡◌};
 ghost use Rattle.chain.specs.Operations.{buffers};
 ghost use Rattle.capi.specs.TotalCalls.{PlaceCall, SumCall, TotalCall};
-ghost use Rattle.chain.specs.Answers.{place_number, place_ledger};
-ghost use Rattle.totals.specs.Totals.{sum_number, sum_entries, sum_parts, total_number, total_ones, total_parts, total_rounded};
 
 use crate::number::status;
 use chain::answer::Refusal;
@@ -37,39 +35,46 @@ pub struct SummedRun {
     pub rounded: u64,
 }
 
-fn listed_ledger(a: Result<LedgerNumber, Refusal>) -> ListedLedger
-    ensures answer { result.answer ≡ place_number a }
-    ensures ledger { result.ledger ≡ place_ledger a }
-{
-    ListedLedger {
-        answer: status(&a),
-        ledger: a.map_or(0, |l| l.0),
+impl From<Result<LedgerNumber, Refusal>> for ListedLedger {
+    ghost use Rattle.chain.specs.Answers.{place_number, place_ledger};
+
+    ghost from_gives = { λ a listed. (listed.answer ≡ place_number a) × (listed.ledger ≡ place_ledger a) };
+
+    fn from(a: Result<LedgerNumber, Refusal>) -> ListedLedger {
+        ListedLedger {
+            answer: status(&a),
+            ledger: a.map_or(0, |l| l.0),
+        }
     }
 }
 
-fn summed_ledger(a: Result<LedgerSum, Refusal>) -> SummedLedger
-    ensures answer { result.answer ≡ sum_number a }
-    ensures entries { result.entries ≡ sum_entries a }
-    ensures sum { result.sum ≡ sum_parts a }
-{
-    SummedLedger {
-        answer: status(&a),
-        entries: a.map_or(0, |s| s.entries),
-        sum: a.map_or(0, |s| s.sum),
+impl From<Result<LedgerSum, Refusal>> for SummedLedger {
+    ghost use Rattle.totals.specs.Totals.{sum_number, sum_entries, sum_parts};
+
+    ghost from_gives = { λ a summed. (summed.answer ≡ sum_number a) × ((summed.entries ≡ sum_entries a) × (summed.sum ≡ sum_parts a)) };
+
+    fn from(a: Result<LedgerSum, Refusal>) -> SummedLedger {
+        SummedLedger {
+            answer: status(&a),
+            entries: a.map_or(0, |s| s.entries),
+            sum: a.map_or(0, |s| s.sum),
+        }
     }
 }
 
-fn summed_run(a: Result<RunTotal, Refusal>) -> SummedRun
-    ensures answer { result.answer ≡ total_number a }
-    ensures ones { result.ones ≡ total_ones a }
-    ensures parts { result.parts ≡ total_parts a }
-    ensures rounded { result.rounded ≡ total_rounded a }
-{
-    SummedRun {
-        answer: status(&a),
-        ones: a.map_or(0, |t| t.ones),
-        parts: a.map_or(0, |t| t.parts),
-        rounded: a.map_or(0, |t| t.rounded),
+impl From<Result<RunTotal, Refusal>> for SummedRun {
+    ghost use Rattle.totals.specs.Totals.{total_number, total_ones, total_parts, total_rounded};
+
+    ghost from_gives = { λ a summed. (summed.answer ≡ total_number a) × ((summed.ones ≡ total_ones a)
+        × ((summed.parts ≡ total_parts a) × (summed.rounded ≡ total_rounded a))) };
+
+    fn from(a: Result<RunTotal, Refusal>) -> SummedRun {
+        SummedRun {
+            answer: status(&a),
+            ones: a.map_or(0, |t| t.ones),
+            parts: a.map_or(0, |t| t.parts),
+            rounded: a.map_or(0, |t| t.rounded),
+        }
     }
 }
 
@@ -77,19 +82,19 @@ pub fn cindrolf_ledger_at(state: &[u64], entries: &[u64], place: u64) -> ListedL
     ensures { PlaceCall place (buffers state.now entries.now) result.answer result.ledger }
 {
     let a = readers::ledger_at::ledger_at(state, entries, ListPlace(place));
-    listed_ledger(a)
+    ListedLedger::from(a)
 }
 
 pub fn cindrolf_ledger_sum(state: &[u64], entries: &[u64], ledger: u64) -> SummedLedger
     ensures { SumCall ledger (buffers state.now entries.now) result.answer result.entries result.sum }
 {
     let a = totals::ledger_sum::ledger_sum(state, entries, LedgerNumber(ledger));
-    summed_ledger(a)
+    SummedLedger::from(a)
 }
 
 pub fn cindrolf_run_total(state: &[u64], entries: &[u64]) -> SummedRun
     ensures { TotalCall (buffers state.now entries.now) result.answer result.ones result.parts result.rounded }
 {
     let a = totals::run_total::run_total(state, entries);
-    summed_run(a)
+    SummedRun::from(a)
 }

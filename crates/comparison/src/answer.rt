@@ -1,38 +1,28 @@
 // An answer of the log or of the model, so that the two can be compared.
+use chain::answer::Answer as LogAnswer;
+use model::answer::{Answer, Refusal};
 
-// What was answered. A refusal is its number in the reference, of which the log has more than the model.
+// What was answered, in the model's words. A refusal is its number in the reference, since the log has more of them than the model.
 #[derive(Clone, Copy, Debug, PartialEq, Eq)]
-pub enum Said {
-    Done,
-    WasClosed,
-    Behind,
-    Written { number: u64, place: u64 },
-    Refused(u64),
-}
+pub struct Said(pub Result<Answer, u64>);
 
-impl From<chain::answer::Answer> for Said {
-    fn from(answer: chain::answer::Answer) -> Said {
-        match answer {
-            chain::answer::Answer::Done => Said::Done,
-            chain::answer::Answer::WasClosed => Said::WasClosed,
-            chain::answer::Answer::Behind => Said::Behind,
-            chain::answer::Answer::Written(at) => Said::Written {
+impl From<LogAnswer> for Said {
+    fn from(answer: LogAnswer) -> Said {
+        Said(match answer {
+            LogAnswer::Done => Ok(Answer::Done),
+            LogAnswer::WasClosed => Ok(Answer::WasClosed),
+            LogAnswer::Behind => Ok(Answer::Behind),
+            LogAnswer::Written(at) => Ok(Answer::Written {
                 number: at.number.0,
                 place: at.place.0,
-            },
-            chain::answer::Answer::Refused(r) => Said::Refused(u64::from(r)),
-        }
+            }),
+            LogAnswer::Refused(r) => Err(u64::from(r)),
+        })
     }
 }
 
-impl From<model::answer::Answer> for Said {
-    fn from(answer: model::answer::Answer) -> Said {
-        match answer {
-            model::answer::Answer::Done => Said::Done,
-            model::answer::Answer::WasClosed => Said::WasClosed,
-            model::answer::Answer::Behind => Said::Behind,
-            model::answer::Answer::Written { number, place } => Said::Written { number, place },
-            model::answer::Answer::Refused(r) => Said::Refused(r as u64),
-        }
+impl From<Result<Answer, Refusal>> for Said {
+    fn from(answer: Result<Answer, Refusal>) -> Said {
+        Said(answer.map_err(|r| r as u64))
     }
 }

@@ -2,7 +2,7 @@
 use chain::kind::Kind;
 use model::answer::Step;
 
-// No From, since both types are of other crates.
+// No From: the types are of chain and of model, and neither of the two rests on the other.
 pub fn kind_of(step: Step) -> Kind {
     match step {
         Step::Name => Kind::Name,

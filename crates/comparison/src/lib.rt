@@ -9,11 +9,12 @@ pub mod kind;
 use crate::answer::Said;
 use crate::buffers::{Entries, State};
 use crate::difference::{Difference, What};
-use model::answer::{Answer, Asked};
-use model::variables::LedgerChaining;
+use model::answer::{Answer, Asked, Refusal};
+use model::pack::WORDS;
+use model::variables::{ENTRIES, LedgerChaining};
 
 // A log beside the model, the progress, and the first difference.
-#[derive(Drop)]
+#[derive(Debug, PartialEq, Eq, Drop)]
 pub struct Comparison {
     pub state: State,
     pub entries: Entries,
@@ -30,8 +31,8 @@ pub struct Comparison {
 impl Comparison {
     pub fn new() -> Comparison {
         Comparison {
-            state: [0; 527],
-            entries: [0; 4096],
+            state: [0; WORDS],
+            entries: [0; ENTRIES],
             model: LedgerChaining::new(0),
             histories: 0,
             steps: 0,
@@ -49,13 +50,11 @@ impl Comparison {
 
     // Only the first difference is kept.
     pub fn note(&mut self, what: What) {
-        if self.difference.is_none() {
-            self.difference = Some(Difference {
-                what,
-                history: self.histories,
-                step: self.step,
-            });
-        }
+        self.difference.get_or_insert(Difference {
+            what,
+            history: self.histories,
+            step: self.step,
+        });
     }
 
     // A fresh log, and what fresh answered, beside the first state of LedgerChaining.
@@ -63,12 +62,19 @@ impl Comparison {
         self.histories = self.histories.saturating_add(1);
         self.step = 0;
         self.model = LedgerChaining::new(clients);
-        self.expect(Said::from(answer) == Said::Done, What::Answer(0));
+        self.expect(
+            Said::from(answer) == Said(Ok(Answer::Done)),
+            What::Answer(0),
+        );
         self.compare_buffers();
     }
 
     // The log has taken the step and answered. The model takes it too, and its answer is handed back.
-    pub fn follow(&mut self, asked: Asked, answer: chain::answer::Answer) -> Answer {
+    pub fn follow(
+        &mut self,
+        asked: Asked,
+        answer: chain::answer::Answer,
+    ) -> Result<Answer, Refusal> {
         self.step = self.step.saturating_add(1);
         self.steps = self.steps.saturating_add(1);
         let said = self.model.take(asked);
@@ -87,6 +93,6 @@ impl Comparison {
         if let Some(i) = buffers::entries_difference(&self.entries, &self.model) {
             self.note(What::EntryWord(i));
         }
-        self.words = self.words.saturating_add(527 + 4096);
+        self.words = self.words.saturating_add((WORDS + ENTRIES) as u64);
     }
 }

@@ -4,7 +4,7 @@ use comparison::Comparison;
 use dispatch::Step;
 use model::answer::Asked;
 
-// No From, since both types are of other crates.
+// No From: the types are of dispatch and of model, and neither of the two rests on the other.
 fn step_of(asked: Asked) -> Step {
     Step {
         client: asked.client,

@@ -3,6 +3,7 @@ use chain::answer::Answer;
 use comparison::Comparison;
 use model::answer::{Asked, Step};
 
+// Two arms, since `steps` has two functions for them: a write brings its value, and every other step is taken by its kind.
 fn take_on_log(both: &mut Comparison, asked: Asked) -> Answer {
     let rights = all_rights(both);
     let client = asked.client;
@@ -27,7 +28,7 @@ pub fn all_rights(both: &Comparison) -> [u64; rights::LENGTH] {
 
 pub fn take(both: &mut Comparison, asked: Asked) -> Answer {
     let answer = take_on_log(both, asked);
-    both.follow(asked, answer);
+    let _ = both.follow(asked, answer);
     answer
 }
 

@@ -8,6 +8,7 @@ use chain::answer::Answer;
 use chain::kind::Kind;
 use comparison::Comparison;
 use model::answer::Step;
+use model::pack::WORDS;
 use std::io;
 
 pub fn session(rt: &impl Print, both: &mut Comparison) -> io::Result<()> {
@@ -76,12 +77,13 @@ pub fn on_a_fresh_log(rt: &impl Print, both: &mut Comparison) -> io::Result<()> 
     say_line(rt, "abdicate 0", idle)
 }
 
-// Become on a state that lacks its last word.
+// Become on a state that lacks its last word. It takes the two buffers and no Comparison: of the two lent by one function, the prover's borrow
+// checker does not cover a part of a field.
 fn become_on_short(state: &mut [u64], entries: &mut [u64]) -> Answer
     requires { 526 ≤ length state.old }
 {
     steps::take::take(
-        &mut state[..526],
+        &mut state[..WORDS - 1],
         entries,
         &[0; rights::LENGTH],
         0,

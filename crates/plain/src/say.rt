@@ -3,8 +3,8 @@ use chain::answer::Answer;
 use comparison::Comparison;
 use std::{fmt, io};
 
-// An answer as a session words it.
-#[derive(Clone, Copy)]
+// An answer as a session words it. The session itself puts the words into a text, by `replies::reply`; this program uses no code of it.
+#[derive(Clone, Copy, Debug, PartialEq, Eq)]
 struct Worded(Answer);
 
 impl fmt::Display for Worded {

@@ -18,7 +18,7 @@ fn accepted(
     value: u64,
 ) -> io::Result<()> {
     let answer = write_scores(both, scores);
-    both.follow(write(0, value), answer);
+    let _ = both.follow(write(0, value), answer);
     say_line(rt, label, answer)
 }
 
