@@ -48,7 +48,7 @@ module _ (bs : List ℕ) (whole : Option ℕ) (v i : ℕ) (so_far : whole ≡ nu
   pub number-other : i < length bs → is_digit (get_or bs i 0) ≡ false → None ≡ whole
   number-other l h = sym (next l ∙ cons-other v (get_or bs i 0) (drop (i + 1) bs) h)
 
-  pub number-large : i < length bs → is_digit (get_or bs i 0) ≡ true → (2 ^ 64 - 1 - (get_or bs i 0 - 48)) / 10 < v → None ≡ whole
+  pub number-large : i < length bs → is_digit (get_or bs i 0) ≡ true → 2 ^ 64 ≤ v * 10 + (get_or bs i 0 - 48) → None ≡ whole
   number-large l h m =
       let r = digit-range (get_or bs i 0) h in
       sym (number-turn l h ∙ large (v * 10 + (get_or bs i 0 - 48)) (drop (i + 1) bs) (omega arith))

@@ -5,12 +5,10 @@ ghost use Rattle.text.specs.Puts.{Puts, Room};
 
 use crate::writer::Writer;
 
-const LARGEST: u64 = u64::MAX;
-
 fn digit(n: u64) -> u8
     ensures { result ≡ 48 + n % 10 }
 {
-    48 + (n % 10) as u8
+    b'0' + (n % 10) as u8
 }
 
 impl<'a> Writer<'a> {
@@ -42,7 +40,7 @@ fn starts(bytes: &[u8]) -> bool
     if bytes.len() < 2 {
         return bytes.len() == 1;
     }
-    bytes[0] != 48
+    bytes[0] != b'0'
 }
 
 pub fn parse_decimal(bytes: &[u8]) -> Option<u64>
@@ -51,16 +49,13 @@ pub fn parse_decimal(bytes: &[u8]) -> Option<u64>
     if !starts(bytes) {
         return None;
     }
-    let mut value = 0;
+    let mut value = 0u64;
     for &b in bytes {
         if !b.is_ascii_digit() {
             return None;
         }
         let d = u64::from(b - b'0');
-        if value > (LARGEST - d) / 10 {
-            return None;
-        }
-        value = value * 10 + d;
+        value = value.checked_mul(10)?.checked_add(d)?;
     }
     Some(value)
 }
