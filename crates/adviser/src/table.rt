@@ -27,9 +27,5 @@ pub fn client_advice(named: bool, client: Client, fenced: bool) -> Option<Kind>
     if named {
         return Some(stage_advice(client.stage, fenced));
     }
-    if client.leads {
-        Some(Kind::Abdicate)
-    } else {
-        None
-    }
+    client.leads.then_some(Kind::Abdicate)
 }
