@@ -24,7 +24,8 @@ pub enum Seen {
     Next(u64, u64),
     // The engine's reply to the append: so many rows are known, and the row is at this place.
     Placed(u64, u64),
-    // The request is accepted on the copy. The id is one that no append ever had, or 0 where there is none.
+    // The request is accepted on the copy. The id is one that no append ever had, or 0 where there is none: no Option, since `Turns.turn` and
+    // `Driving.lacks-id` speak of that 0, and `Numbers.seen_of` makes it of the number that C passes.
     Accepted(u64),
     // The request is refused on the copy, each of its steps.
     Refused,

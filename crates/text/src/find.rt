@@ -9,7 +9,7 @@ fn first_place(text: &[u8], byte: u8) -> Option<usize>
 }
 
 // From a place on: the index of the first such byte, the length where there is none. It stays a number and no Option: its contract is
-// `index_of`, and callers cut the text there in both cases.
+// `index_of`, where the definitions over it (`parse_write` of a step, `first_of` of an input, `read_sentence`) cut a text in both cases.
 pub fn index_from(text: &[u8], from: usize, byte: u8) -> usize
     requires { from ≤ length text.now }
     ensures is { result ≡ from + index_of byte (drop from text.now) }

@@ -1,4 +1,5 @@
-// A fixed phrase, compared.
+// A fixed phrase, compared. This is the library's `==`, promised in the words of `same_bytes`, which `Read.read_sentence` and the laws of
+// phrases speak of; `PhraseLaws.equal-is` is the proof that the two are the same.
 ghost use Rattle.std.specs.Prelude.{◌≡◌};
 ghost use Rattle.text.specs.Phrase.{same_bytes};
 
