@@ -22,7 +22,8 @@ fn write_plane(words: &[u64], bytes: &mut [u8], j: usize)
     }
 }
 
-// Plane after plane, so that all bytes are written in one order and the words are read in theirs.
+// Plane after plane, so that all bytes are written in one order and the words are read in theirs. The planes go by their number: there may be no
+// words, and `chunks_mut` takes no length of 0.
 fn write_planes(words: &[u64], bytes: &mut [u8])
     requires { (length words.now ≤ rearrange_limit) × (length bytes.old ≡ 8 * length words.now) }
     ensures { bytes.new ≡ rearrangement words.now }
