@@ -1,4 +1,7 @@
 // The first window of the chain reading whose values add up to more than a limit. Neither the reading nor a part of it is copied.
+//
+// `first_window` takes `state` and `entries` as two parameters: they may be no log, and it refuses those with 1 and 2. Behind the check a `Log` holds
+// both.
 #![tactic(auto)]
 
 mod walk;
