@@ -7,7 +7,7 @@ use chain::answer::{Answer, Refusal};
 use chain::kind::{Kind, UnknownStep};
 use dispatch::Step;
 
-// The value counts only for a write.
+// The value counts only for a write, as in `dispatch::Step`.
 pub fn numbered(number: u64, client: u64, value: u64) -> Result<Step, UnknownStep>
     ensures { Numbered number client value result }
 {
