@@ -16,10 +16,10 @@ fn print_heading(rt: &impl Print, name: &[u8]) -> io::Result<()> {
 }
 
 fn run_file(rt: &(impl Files + Print), name: &[u8], product: Product) -> io::Result<()> {
-    match str::from_utf8(name) {
-        Ok(path) => console::run(&mut fs::open(rt, path)?, &mut io::writer(rt), product),
-        Err(_) => Err(io::Error::from(io::ErrorKind::InvalidInput)),
-    }
+    let Ok(path) = str::from_utf8(name) else {
+        return Err(io::ErrorKind::InvalidInput.into());
+    };
+    console::run(&mut fs::open(rt, path)?, &mut io::writer(rt), product)
 }
 
 fn run_argument(rt: &(impl Files + Print), name: &[u8]) -> io::Result<()> {

@@ -1,7 +1,7 @@
 -- How the code finds out how an input opens.
 use Prim.Native.Nat.{ℕ, ◌+◌, ◌-◌, ◌<◌, ◌≤◌}
 use Rattle.std.proofs.Common.{arith, sym, subst, ◌∙◌}
-use Rattle.std.specs.Prelude.{◌≡◌, ◌==◌, true, List, [], ◌∷◌, ◌++◌, length, take, drop, ltb, position, Option, Some, None, Result, Ok, Err, ok_or}
+use Rattle.std.specs.Prelude.{◌≡◌, ◌==◌, true, List, [], ◌∷◌, length, take, drop, ltb, position, Option, Some, None, Result, Ok, Err, ok_or}
 use Rattle.std.proofs.Math.Path.{refl, ap}
 use borrow.Author.Tests.{lt-ltb, le-ltb, ltb-true}
 use Rattle.text.specs.Bytes.{bytes}
@@ -41,10 +41,6 @@ error_words BadStart = bytes "bad start"
 abbrev pub error_line : StartError → List ℕ
 error_line TooLong = bytes "too long\n"
 error_line BadStart = bytes "bad start\n"
-
-pub ended-words : (e : StartError) → error_words e ++ (10 ∷ []) ≡ error_line e
-ended-words TooLong = refl
-ended-words BadStart = refl
 
 module _ (session_text : ℕ → List Line → List ℕ) (input : List ℕ) (s : Start) (o : Opens input s) where
   pub prints-error : (e : StartError) → s ≡ Err e → printed session_text (opening input) ≡ error_line e

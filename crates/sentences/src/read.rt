@@ -7,6 +7,7 @@ ghost use Rattle.sentences.specs.Read.{begins, client_of, read_sentence};
 
 use crate::answer::SentenceNumbers;
 use crate::phrase::{name, names, reasons};
+use text::phrase::is_phrase;
 
 // The step whose name begins the text. No name begins another, so the first is the only one.
 fn step_of(bytes: &[u8]) -> Option<usize>
@@ -15,11 +16,12 @@ fn step_of(bytes: &[u8]) -> Option<usize>
     names().iter().position(|name| bytes.starts_with(name))
 }
 
-// The place, from 0, of the reason that is the whole text.
+// The place, from 0, of the reason that is the whole text. By `is_phrase` and not `==`: its contract says it by `same_bytes`, the word of
+// the definition, and text/must-fail/takes_a_longer_text.edit tries it.
 fn reason_place(bytes: &[u8]) -> Option<usize>
     ensures { result ≡ position (same_bytes bytes.now) reasons }
 {
-    reasons().iter().position(|reason| bytes == *reason)
+    reasons().iter().position(|reason| is_phrase(bytes, reason))
 }
 
 // The client that a numeral names, if there may be one.

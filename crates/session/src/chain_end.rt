@@ -7,7 +7,7 @@ ghost use Rattle.session.specs.Owed.{Reads};
 
 use text::writer::Writer;
 
-// The log is one that read chain does not refuse, and the reading's buffer is long enough.
+// By `reads` the log is one that read chain does not refuse, and the reading's buffer is long enough: there is no other case.
 pub fn put_chain(state: &[u64], entries: &[u64], reading: &mut [u64], to: &mut Writer)
     requires reads { Reads (buffers state.now entries.now) reading.old }
     requires room { Room to.old.text.now to.old.at (chain_line (chain_reading (buffers state.now entries.now))) }

@@ -8,6 +8,7 @@ use limits::PLACE_LIMIT;
 use records::numbers::{LedgerNumber, ListPlace};
 use text::writer::Writer;
 
+// A refused sum is no line, as `line_of` says; that of a listed ledger of a session's log is never refused (`SumsHistory.ledger`).
 fn put_ledger(state: &[u64], entries: &[u64], ledger: LedgerNumber, to: &mut Writer)
     requires { Room to.old.text.now to.old.at (part_line ledger.0 (buffers state.now entries.now)) }
     ensures puts { Puts to.old.text.now to.old.at

@@ -26,6 +26,7 @@ fn run_lines(input: &[u8], from: usize, state: &mut [u64], entries: &mut [u64], 
     }
 }
 
+// A refused total is no line, as `end_of` says; that of a session's log is never refused (`SumsHistory.total`).
 fn put_total(state: &[u64], entries: &[u64], to: &mut Writer)
     requires { Room to.old.text.now to.old.at (end_of (run_total (buffers state.now entries.now))) }
     ensures puts { Puts to.old.text.now to.old.at
@@ -47,6 +48,7 @@ fn put_log(state: &[u64], entries: &[u64], to: &mut Writer)
     put_total(state, entries, to);
 }
 
+// It has no values in use: it names the text for `put_printed`.
 pub struct Output;
 
 impl SessionText for Output {

@@ -1,8 +1,5 @@
-use Rattle.text.specs.Puts.{puts_then, room-first, room_next}
+use Rattle.text.specs.Puts.{puts_then, room_next}
 use Rattle.replies.proofs.reply.put_position.Goals as goal
-
-pub put_counted-requires : goal.put_counted-requires
-put_counted-requires c = room-first _ _ c.requires
 
 pub put_counted-requires-2 : goal.put_counted-requires-2
 put_counted-requires-2 c = room_next c.put_counted.ensures.puts _ c.requires
