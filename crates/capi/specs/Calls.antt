@@ -1,13 +1,12 @@
 -- What each exported function owes its caller, by the definitions of crate chain, with the answer as one number.
 use Rattle.std.specs.Prelude.{ℕ, ◌≡◌, List, length, take, drop}
-use Rattle.std.proofs.Common.{sym, ap, ◌∙◌}
+use Rattle.std.proofs.Common.{sym}
 use Rattle.std.proofs.Math.Path.{subst}
 use Rattle.std.proofs.Math.Option.{Option, none, some}
 use Rattle.checks.specs.Checks.{Check, Outcome, stops, goes, outcome, first}
 use Rattle.chain.specs.declared.answer.Refusal.{Refusal}
 use Rattle.chain.specs.declared.answer.Answer.{Answer}
 use Rattle.chain.specs.declared.answer.Answer.TheVariants.{Done, Refused}
-use Rattle.chain.specs.Answered.{ChainAnswer, WindowAnswer}
 use Rattle.chain.specs.Answers.{answer_number, chain_number, chain_count, window_number, window_found, window_start}
 use Rattle.chain.specs.Rights.{all_rights}
 use Rattle.chain.specs.Steps.{Step}
@@ -17,14 +16,12 @@ use Rattle.chain.specs.Operations.{read_ledger_checks, read_ledger_answer, read_
 use Rattle.chain.specs.Windows.{first_window}
 use Rattle.chain.specs.Marks.{set_checks, set_answer, after_set, drop_checks, drop_answer, after_drop, read_mark_answer, read_mark_output}
 use Rattle.chain.specs.Plans.{planned_answer, after_planned, forecast}
-use Rattle.plans.specs.declared.forecast.Forecast.{Forecast}
 use Rattle.plans.specs.Numbers.{TakeResult}
-use Rattle.plans.specs.Runs.{Foretells}
 use Rattle.chain.specs.NumberSizes.{NumbersBelow}
 use Rattle.chain.proofs.Laws.Numbers.{step-numbers}
 use Rattle.fresh.specs.Fresh.{FreshResult}
-use Rattle.sentences.specs.Sentences.{SentenceAnswer, sentence_answer, sentence_text, sentence_number, sentence_length}
-use Rattle.sentences.specs.Read.{SentenceRead, read_sentence, sentence_found, sentence_step, sentence_client, sentence_refusal}
+use Rattle.sentences.specs.Sentences.{sentence_answer, sentence_text, sentence_number, sentence_length}
+use Rattle.sentences.specs.Read.{read_sentence, sentence_found, sentence_step, sentence_client, sentence_refusal}
 use Rattle.readers.specs.Locate.{part_start, Locates}
 
 -- The number of this interface, the same as CINDROLF_VERSION in include/cindrolf.h.
@@ -93,10 +90,6 @@ pub record ForecastCall (rights plan : List ℕ) (budget : ℕ) (b : Buffers) (e
   pub ledgers-added : ledgers ≡ (forecast rights plan budget b).ledgers
   pub refused : refusals ≡ (forecast rights plan budget b).refusals
 
-pub forecast-called : {rights plan : List ℕ} {budget : ℕ} {b : Buffers} {r : Forecast} → Foretells rights plan budget b r
-    → ForecastCall rights plan budget b r.entries r.ledgers r.refusals
-forecast-called o = record { entries-added = o.entries-added; ledgers-added = o.ledgers-added; refused = o.refused }
-
 -- A refusal in words: its answer and its length as two numbers, and every byte of the text buffer afterwards.
 pub record SentenceCall (step client refusal : ℕ) (text : List ℕ) (answer length : ℕ) (after : List ℕ) : Type 0 where
   pub answers : answer ≡ sentence_number (sentence_answer step client refusal text)
@@ -118,21 +111,15 @@ numbers-none cs = at _ (outcome cs Refused Done)
     at a (stops r e) = subst NumbersBelow (sym e) tt
     at a (goes p e) = subst NumbersBelow (sym e) tt
 
--- What each operation answers has a number, and with it the call is as owed.
+-- What each operation answers has a number.
 module _ {n : ℕ} {b : Buffers} {a : Answer} {state entries : List ℕ} (o : FreshResult n b a state entries) where
   pub fresh-small : NumbersBelow a
   unfolding fresh_answer
   fresh-small = subst NumbersBelow (sym o.answers) (numbers-none (fresh_checks n b))
 
-  pub fresh-called : {r : ℕ} → r ≡ answer_number a → FreshCall n b r state entries
-  fresh-called e = record { answers = e ∙ ap answer_number o.answers; state-words = o.state-words; entry-words = o.entry-words }
-
 module _ {x : Step} {b : Buffers} {a : Answer} {state entries : List ℕ} (o : Result x b a state entries) where
   pub step_small : NumbersBelow a
   step_small = subst NumbersBelow (sym o.answers) (step-numbers x b)
-
-  pub step-called : {r : ℕ} → r ≡ answer_number a → StepCall x b r state entries
-  step-called e = record { answers = e ∙ ap answer_number o.answers; state-words = o.state-words; entry-words = o.entry-words }
 
 module _ {x : Option Step} {b : Buffers} {a : Answer} {state entries : List ℕ} (o : TakeResult x b a state entries) where
   pub take-small : NumbersBelow a
@@ -142,28 +129,10 @@ module _ {x : Option Step} {b : Buffers} {a : Answer} {state entries : List ℕ}
       at none = tt
       at (some y) = step-numbers y b
 
-  pub take-called : {r : ℕ} → r ≡ answer_number a → TakeCall x b r state entries
-  take-called e = record {
-    answers = e ∙ ap answer_number o.answers;
-    state-words = ap (λ (c : Buffers). c.state) o.words;
-    entry-words = ap (λ (c : Buffers). c.entries) o.words;
-  }
-
 module _ {l : ℕ} {b : Buffers} {a : Answer} {start count : ℕ} (o : Locates l b a start count) where
   pub ledger-small : NumbersBelow a
   unfolding read_ledger_answer
   ledger-small = subst NumbersBelow (sym o.answers) (numbers-none (read_ledger_checks l b))
-
-  pub ledger-called : {r : ℕ} → r ≡ answer_number a → LedgerCall l b r start count
-  ledger-called e = record { answers = e ∙ ap answer_number o.answers; starts = o.starts; counts = o.counts; words = o.words }
-
-pub chain-called : {b : Buffers} {output after : List ℕ} {a : ChainAnswer} {r n : ℕ} → a ≡ read_chain_answer b output → after ≡ read_chain_output b output
-    → r ≡ chain_number a → n ≡ chain_count a → ChainCall b output r n after
-chain-called e o p q = record { answers = p ∙ ap chain_number e; counts = q ∙ ap chain_count e; output-words = o }
-
-pub window-called : {n limit : ℕ} {b : Buffers} {a : WindowAnswer} {r f i : ℕ} → a ≡ first_window n limit b → r ≡ window_number a → f ≡ window_found a
-    → i ≡ window_start a → WindowCall n limit b r f i
-window-called e p q s = record { answers = p ∙ ap window_number e; founds = q ∙ ap window_found e; starts = s ∙ ap window_start e }
 
 module _ (name : ℕ) (b : Buffers) (ms : List ℕ) {a : Answer} where
   pub set-small : a ≡ set_answer name b ms → NumbersBelow a
@@ -173,26 +142,3 @@ module _ (name : ℕ) (b : Buffers) (ms : List ℕ) {a : Answer} where
   pub drop-small : a ≡ drop_answer name b ms → NumbersBelow a
   unfolding drop_answer
   drop-small e = subst NumbersBelow (sym e) (numbers-none (drop_checks name b ms))
-
-  pub set-called : {r : ℕ} {after : List ℕ} → a ≡ set_answer name b ms → after ≡ after_set name b ms → r ≡ answer_number a → SetMarkCall name b ms r after
-  set-called e o p = record { answers = p ∙ ap answer_number e; mark-words = o }
-
-  pub drop-called : {r : ℕ} {after : List ℕ} → a ≡ drop_answer name b ms → after ≡ after_drop name b ms → r ≡ answer_number a → DropMarkCall name b ms r after
-  drop-called e o p = record { answers = p ∙ ap answer_number e; mark-words = o }
-
-pub read-mark-called : {name : ℕ} {b : Buffers} {ms output after : List ℕ} {a : ChainAnswer} {r n : ℕ} → a ≡ read_mark_answer name b ms output
-    → after ≡ read_mark_output name b ms output → r ≡ chain_number a → n ≡ chain_count a → ReadMarkCall name b ms output r n after
-read-mark-called e o p q = record { answers = p ∙ ap chain_number e; counts = q ∙ ap chain_count e; output-words = o }
-
-pub sentence-called : {step client refusal : ℕ} {text after : List ℕ} {a : SentenceAnswer} {r n : ℕ} → a ≡ sentence_answer step client refusal text
-    → after ≡ sentence_text step client refusal text → r ≡ sentence_number a → n ≡ sentence_length a → SentenceCall step client refusal text r n after
-sentence-called e o p q = record { answers = p ∙ ap sentence_number e; lengths = q ∙ ap sentence_length e; text-bytes = o }
-
-pub read-sentence-called : {text : List ℕ} {a : SentenceRead} {f s c r : ℕ} → a ≡ read_sentence text → f ≡ sentence_found a → s ≡ sentence_step a
-    → c ≡ sentence_client a → r ≡ sentence_refusal a → ReadSentenceCall text f s c r
-read-sentence-called e o p q t = record {
-  founds = o ∙ ap sentence_found e;
-  steps = p ∙ ap sentence_step e;
-  clients = q ∙ ap sentence_client e;
-  refusals = t ∙ ap sentence_refusal e;
-}

@@ -1,6 +1,6 @@
 -- What rearrange and restore owe their caller, with the answer as one number.
 use Rattle.std.specs.Prelude.{ℕ, ◌≡◌, List, length}
-use Rattle.std.proofs.Common.{sym, ap, subst, ◌∙◌}
+use Rattle.std.proofs.Common.{sym, subst}
 use Rattle.chain.specs.declared.answer.Answer.{Answer}
 use Rattle.chain.specs.Answers.{answer_number}
 use Rattle.chain.specs.NumberSizes.{NumbersBelow}
@@ -21,6 +21,3 @@ RestoreCall bs ws = StorageCall (storage_answer (length ws) (length bs)) (words_
 pub storage-small : (n m : ℕ) {a : Answer} → a ≡ storage_answer n m → NumbersBelow a
 unfolding storage_answer
 storage-small n m e = subst NumbersBelow (sym e) (numbers-none (storage_checks n m))
-
-pub storage-called : {a b : Answer} {after lent : List ℕ} {r : ℕ} → a ≡ b → lent ≡ after → r ≡ answer_number a → StorageCall b after r lent
-storage-called e o p = record { answers = p ∙ ap answer_number e; contents = o }

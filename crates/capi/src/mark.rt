@@ -29,5 +29,5 @@ pub fn cindrolf_mark_read(
         output.old result.answer result.count output.new }
 {
     let a = marks::read::read_mark(state, entries, marks, name, output);
-    crate::reading::chain_count(a)
+    ChainCount::from(a)
 }

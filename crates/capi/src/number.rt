@@ -1,4 +1,5 @@
-// An answer and an advice as one number, since no enum crosses the boundary.
+// An answer and an advice as one number, since no enum crosses the boundary. No From: the types on both sides are of other
+// crates, and `answer_number` asks for `NumbersBelow`.
 ghost use Rattle.std.specs.Prelude.{◌≡◌, MatchResult};
 ghost use Rattle.chain.specs.Answers.{answer_number, advice_number, done, refused, refusal_number};
 ghost use Rattle.chain.specs.NumberSizes.{NumbersBelow};

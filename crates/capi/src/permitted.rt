@@ -1,4 +1,4 @@
-// The steps, each under the rights that are passed with it.
+// The steps, each under the rights that are passed with it. One function for each, since C calls each by its name.
 ghost use Rattle.chain.specs.Operations.{buffers};
 ghost use Rattle.chain.specs.Steps as kinds;
 ghost use Rattle.chain.specs.Steps.{by};

@@ -3,12 +3,29 @@ ghost use Rattle.chain.specs.Operations.{buffers};
 ghost use Rattle.plans.specs.Runs.{RunResult};
 ghost use Rattle.capi.specs.Calls.{ForecastCall};
 
+use plans::forecast::Forecast;
+
 #[repr(C)]
 #[derive(Clone, Copy, Debug, PartialEq, Eq)]
 pub struct PlanCounts {
     pub entries: u64,
     pub ledgers: u64,
     pub refusals: u64,
+}
+
+impl From<Forecast> for PlanCounts {
+    ghost use Rattle.std.specs.Prelude.{◌≡◌};
+
+    ghost from_gives = { λ forecast counts. (counts.entries ≡ forecast.entries)
+        × ((counts.ledgers ≡ forecast.ledgers) × (counts.refusals ≡ forecast.refusals)) };
+
+    fn from(forecast: Forecast) -> PlanCounts {
+        PlanCounts {
+            entries: forecast.entries,
+            ledgers: forecast.ledgers,
+            refusals: forecast.refusals,
+        }
+    }
 }
 
 pub fn cindrolf_run_plan(
@@ -34,10 +51,6 @@ pub fn cindrolf_forecast(
     ensures { ForecastCall rights.now plan.now budget
         (buffers state.now entries.now) result.entries result.ledgers result.refusals }
 {
-    let counts = plans::forecast::forecast_plan(state, entries, rights, plan, budget);
-    PlanCounts {
-        entries: counts.entries,
-        ledgers: counts.ledgers,
-        refusals: counts.refusals,
-    }
+    let forecast = plans::forecast::forecast_plan(state, entries, rights, plan, budget);
+    PlanCounts::from(forecast)
 }

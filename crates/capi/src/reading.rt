@@ -2,7 +2,6 @@
 ghost use Rattle.std.specs.Prelude.{◌≡◌};
 ghost use Rattle.chain.specs.Operations.{buffers};
 ghost use Rattle.capi.specs.Calls.{LedgerCall, ChainCall};
-ghost use Rattle.chain.specs.Answers.{chain_number, chain_count};
 
 use chain::answer::Refusal;
 use records::numbers::LedgerNumber;
@@ -24,13 +23,16 @@ pub struct ChainCount {
     pub count: u64,
 }
 
-pub fn chain_count(a: Result<u64, Refusal>) -> ChainCount
-    ensures answer { result.answer ≡ chain_number a }
-    ensures count { result.count ≡ chain_count a }
-{
-    ChainCount {
-        answer: crate::number::status(&a),
-        count: a.unwrap_or(0),
+impl From<Result<u64, Refusal>> for ChainCount {
+    ghost use Rattle.chain.specs.Answers.{chain_number, chain_count};
+
+    ghost from_gives = { λ a read. (read.answer ≡ chain_number a) × (read.count ≡ chain_count a) };
+
+    fn from(a: Result<u64, Refusal>) -> ChainCount {
+        ChainCount {
+            answer: crate::number::status(&a),
+            count: a.unwrap_or(0),
+        }
     }
 }
 
@@ -51,5 +53,5 @@ pub fn cindrolf_read_chain(state: &[u64], entries: &[u64], output: &mut [u64]) -
         result.count output.new }
 {
     let a = readers::read_chain::read_chain(state, entries, output);
-    chain_count(a)
+    ChainCount::from(a)
 }

@@ -1,7 +1,5 @@
 // A refusal in words, and what a sentence says. It uses no log.
 ghost use Rattle.std.specs.Prelude.{◌≡◌};
-ghost use Rattle.sentences.specs.Sentences.{sentence_number, sentence_length};
-ghost use Rattle.sentences.specs.Read.{sentence_found, sentence_step, sentence_client, sentence_refusal};
 ghost use Rattle.capi.specs.Calls.{SentenceCall, ReadSentenceCall};
 
 use chain::answer::Refusal;
@@ -15,13 +13,16 @@ pub struct SentenceBytes {
     pub length: u64,
 }
 
-fn sentence_bytes(a: Result<u64, Refusal>) -> SentenceBytes
-    ensures answer { result.answer ≡ sentence_number a }
-    ensures length { result.length ≡ sentence_length a }
-{
-    SentenceBytes {
-        answer: crate::number::status(&a),
-        length: a.unwrap_or(0),
+impl From<Result<u64, Refusal>> for SentenceBytes {
+    ghost use Rattle.sentences.specs.Sentences.{sentence_number, sentence_length};
+
+    ghost from_gives = { λ a written. (written.answer ≡ sentence_number a) × (written.length ≡ sentence_length a) };
+
+    fn from(a: Result<u64, Refusal>) -> SentenceBytes {
+        SentenceBytes {
+            answer: crate::number::status(&a),
+            length: a.unwrap_or(0),
+        }
     }
 }
 
@@ -29,7 +30,7 @@ pub fn cindrolf_sentence(step: u64, client: u64, refusal: u64, text: &mut [u8]) 
     ensures { SentenceCall step client refusal text.old result.answer result.length text.new }
 {
     let a = sentences::sentence(step, client, refusal, text);
-    sentence_bytes(a)
+    SentenceBytes::from(a)
 }
 
 // 1 where a text is exactly a sentence, with its step, its client and its refusal; each 0 where it is none.
@@ -42,17 +43,19 @@ pub struct SentenceSaid {
     pub refusal: u64,
 }
 
-fn sentence_said(a: Option<SentenceNumbers>) -> SentenceSaid
-    ensures found { result.found ≡ sentence_found a }
-    ensures step { result.step ≡ sentence_step a }
-    ensures client { result.client ≡ sentence_client a }
-    ensures refusal { result.refusal ≡ sentence_refusal a }
-{
-    SentenceSaid {
-        found: u64::from(a.is_some()),
-        step: a.map_or(0, |n| n.step),
-        client: a.map_or(0, |n| n.client),
-        refusal: a.map_or(0, |n| n.refusal),
+impl From<Option<SentenceNumbers>> for SentenceSaid {
+    ghost use Rattle.sentences.specs.Read.{sentence_found, sentence_step, sentence_client, sentence_refusal};
+
+    ghost from_gives = { λ a said. (said.found ≡ sentence_found a) × ((said.step ≡ sentence_step a)
+        × ((said.client ≡ sentence_client a) × (said.refusal ≡ sentence_refusal a))) };
+
+    fn from(a: Option<SentenceNumbers>) -> SentenceSaid {
+        SentenceSaid {
+            found: u64::from(a.is_some()),
+            step: a.map_or(0, |n| n.step),
+            client: a.map_or(0, |n| n.client),
+            refusal: a.map_or(0, |n| n.refusal),
+        }
     }
 }
 
@@ -60,5 +63,5 @@ pub fn cindrolf_read_sentence(text: &[u8]) -> SentenceSaid
     ensures { ReadSentenceCall text.now result.found result.step result.client result.refusal }
 {
     let a = sentences::read::read_sentence(text);
-    sentence_said(a)
+    SentenceSaid::from(a)
 }

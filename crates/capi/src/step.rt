@@ -1,4 +1,4 @@
-// The steps, each under all ten rights of every client.
+// The steps, each under all ten rights of every client. One function for each, since C calls each by its name.
 ghost use Rattle.chain.specs.Operations.{buffers};
 ghost use Rattle.chain.specs.Steps as kinds;
 ghost use Rattle.chain.specs.Steps.{by};

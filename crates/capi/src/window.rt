@@ -1,6 +1,5 @@
 // The search for a window of the chain reading.
 ghost use Rattle.std.specs.Prelude.{◌≡◌};
-ghost use Rattle.chain.specs.Answers.{window_number, window_found, window_start};
 ghost use Rattle.chain.specs.Operations.{buffers};
 ghost use Rattle.capi.specs.Calls.{WindowCall};
 
@@ -16,16 +15,19 @@ pub struct WindowFound {
     pub start: u64,
 }
 
-fn window_found(a: Result<Option<ReadingPlace>, Refusal>) -> WindowFound
-    ensures answer { result.answer ≡ window_number a }
-    ensures found { result.found ≡ window_found a }
-    ensures start { result.start ≡ window_start a }
-{
-    let place = a.unwrap_or(None);
-    WindowFound {
-        answer: crate::number::status(&a),
-        found: u64::from(place.is_some()),
-        start: place.map_or(0, |at| at.0),
+impl From<Result<Option<ReadingPlace>, Refusal>> for WindowFound {
+    ghost use Rattle.chain.specs.Answers.{window_number, window_found, window_start};
+
+    ghost from_gives = { λ a window. (window.answer ≡ window_number a)
+        × ((window.found ≡ window_found a) × (window.start ≡ window_start a)) };
+
+    fn from(a: Result<Option<ReadingPlace>, Refusal>) -> WindowFound {
+        let place = a.unwrap_or(None);
+        WindowFound {
+            answer: crate::number::status(&a),
+            found: u64::from(place.is_some()),
+            start: place.map_or(0, |at| at.0),
+        }
     }
 }
 
@@ -33,5 +35,5 @@ pub fn cindrolf_first_window(state: &[u64], entries: &[u64], window: u64, limit:
     ensures { WindowCall window limit (buffers state.now entries.now) result.answer result.found result.start }
 {
     let a = windows::first_window(state, entries, window, limit);
-    window_found(a)
+    WindowFound::from(a)
 }
