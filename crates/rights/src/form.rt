@@ -15,7 +15,7 @@ pub fn rights_fit(rights: &[u64], count: u64) -> bool
 {
     let mut ok = true;
     for (i, &w) in rights.iter().enumerate() {
-        ok = ok & word_fits(count, i as u64, w);
+        ok &= word_fits(count, i as u64, w);
     }
     ok
 }

@@ -8,8 +8,5 @@ use limits::REARRANGE_LIMIT;
 pub fn is_wrong(words: usize, bytes: usize) -> bool
     ensures { result ≡ test (wrong_length words bytes) }
 {
-    if REARRANGE_LIMIT < words {
-        return true;
-    }
-    bytes != 8 * words
+    REARRANGE_LIMIT < words || bytes != 8 * words
 }
