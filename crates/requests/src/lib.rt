@@ -1,5 +1,5 @@
-// What a session's input asks for: how it starts, and each of its lines read as a request and taken as a step. Its text is put by a
-// product's `SessionText`, in the one frame of `printed`.
+// What a session's input asks for: how it starts, and each of its lines read as a request and taken as a step. What is
+// printed of an input is put by `printed`, for every product.
 #![tactic(auto)]
 
 // A log is passed on as its two buffers and no struct of them: `fresh` and `dispatch::check_and_take` take the two slices, as C passes them.

@@ -72,7 +72,8 @@ fn put_all<T: SessionText>(input: &[u8], to: &mut Writer)
     }
 }
 
-// From the first byte of a text on, and where it ends. Nothing is written before it is known that all fits: `LIMIT` bytes are enough.
+// From the first byte of a text on, and where it ends. A text of fewer than `LIMIT` bytes, which are enough, is refused before anything is
+// written.
 pub fn put_printed<const LIMIT: usize, T: SessionText>(
     input: &[u8],
     text: &mut [u8],

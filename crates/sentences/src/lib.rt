@@ -44,7 +44,7 @@ fn put_sentence(to: &mut Writer, step: u64, client: u64, refusal: u64)
     to.put_phrase(reason(refusal as usize));
 }
 
-// 27 stands before 28. The C interface's `cindrolf_sentence` passes any numbers: 28 refuses those that have no sentence.
+// Refusal 27 comes before 28. The C interface's `cindrolf_sentence` passes any numbers: 28 refuses those that have no sentence.
 fn check(step: u64, client: u64, refusal: u64, text: &[u8]) -> Result<(), Refusal>
     ensures { result ≡ verdict (sentence_checks step client refusal text.now) }
 {

@@ -3,7 +3,7 @@ use requests::printed::SessionText;
 use requests::start::{Beginning, CAPACITY};
 use text::writer::Writer;
 
-// It has no values in use: it names the text for `put_printed`.
+// No value of it is made: it names the text for `put_printed`.
 pub struct Transcript;
 
 impl SessionText for Transcript {

@@ -48,7 +48,7 @@ fn put_log(state: &[u64], entries: &[u64], to: &mut Writer)
     put_total(state, entries, to);
 }
 
-// It has no values in use: it names the text for `put_printed`.
+// No value of it is made: it names the text for `put_printed`.
 pub struct Output;
 
 impl SessionText for Output {
