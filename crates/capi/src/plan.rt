@@ -5,6 +5,7 @@ ghost use Rattle.capi.specs.Calls.{ForecastCall};
 
 use plans::forecast::Forecast;
 
+// The counts of a forecast, in the layout that C reads; that is said in this crate alone.
 #[repr(C)]
 #[derive(Clone, Copy, Debug, PartialEq, Eq)]
 pub struct PlanCounts {

@@ -36,6 +36,7 @@ impl From<Result<u64, Refusal>> for ChainCount {
     }
 }
 
+// Field by field, and no From: the answer's number asks for `NumbersBelow`.
 pub fn cindrolf_read_ledger(state: &[u64], entries: &[u64], ledger: u64) -> LedgerPart
     ensures { LedgerCall ledger (buffers state.now entries.now) result.answer result.start result.count }
 {

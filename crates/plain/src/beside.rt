@@ -26,6 +26,7 @@ pub fn all_rights(both: &Comparison) -> [u64; rights::LENGTH] {
     rights::all::all_of(&both.state)
 }
 
+// The model's answer is compared with that of the log; the program prints the log's.
 pub fn take(both: &mut Comparison, asked: Asked) -> Answer {
     let answer = take_on_log(both, asked);
     let _ = both.follow(asked, answer);
