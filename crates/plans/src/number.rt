@@ -7,7 +7,7 @@ use chain::answer::{Answer, Refusal};
 use chain::kind::{Kind, UnknownStep};
 use dispatch::Step;
 
-// The value counts only for a write, as in `dispatch::Step`.
+// The value counts only for a write, as in `dispatch::Step`. No TryFrom, here and in `word`: three numbers, or a word, are no type of their own.
 pub fn numbered(number: u64, client: u64, value: u64) -> Result<Step, UnknownStep>
     ensures { Numbered number client value result }
 {
@@ -18,9 +18,6 @@ pub fn numbered(number: u64, client: u64, value: u64) -> Result<Step, UnknownSte
         value,
     })
 }
-
-// The answer to a number that no step has.
-pub(crate) const NO_STEP: Answer = Answer::Refused(Refusal::UnknownStep);
 
 // 25 comes before 1.
 pub fn take(
@@ -34,7 +31,7 @@ pub fn take(
 {
     match planned {
         Ok(step) => dispatch::check_and_take(state, entries, rights, step),
-        Err(_) => NO_STEP,
+        Err(e) => Answer::Refused(Refusal::from(e)),
     }
 }
 
