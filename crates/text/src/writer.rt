@@ -5,6 +5,7 @@ ghost use Rattle.text.specs.Puts.{Puts, Room};
 // The caller's bytes, and where the next one goes.
 // In every contract `same_text` says that the text is still the caller's: which bytes are lent is no value of the fields, so no invariant and no
 // definition over them can say it, and a caller's proof needs it beside what was put.
+// `Room` asks that the piece fits, another piece in each contract.
 #[derive(Drop)]
 pub struct Writer<'a> {
     pub text: &'a mut [u8],
