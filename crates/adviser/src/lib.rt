@@ -15,7 +15,7 @@ use lookup::opened::OpenedLog;
 fn advise_known(log: &OpenedLog) -> Option<Kind>
     ensures { result ≡ advice log.now.client (held (buffers log.now.state.now log.now.entries.now)) }
 {
-    let h = records::head::load_head(log.state);
+    let h = log.head();
     let (k, stored) = log.remembered();
     let named = h.named_leader == log.client;
     table::client_advice(named, k, stored.ledger.fenced)

@@ -7,4 +7,4 @@ pub returns : goal.returns
 returns c =
     let o = tested-opened c.args.log.now.opened in
     let k = c.remembered.ensures in
-    looked-up _ (opened-log o) (leader-is o c.load_head-h.ensures) k.client k.stored c.client_advice.ensures
+    looked-up _ (opened-log o) (leader-is o c.head-h.ensures) k.client k.stored c.client_advice.ensures
