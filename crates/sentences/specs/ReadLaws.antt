@@ -1,10 +1,11 @@
 -- What reading meets: whether a text begins with a phrase, what follows it there, and where the client's numeral ends.
-use Rattle.std.specs.Prelude.{ℕ, ◌+◌, ◌-◌, ◌<◌, ◌≤◌, ◌≡◌, Bool, true, false, Option, Some, None, List, [], take, length, drop, eqb}
+use Rattle.std.specs.Prelude.{ℕ, ◌+◌, ◌-◌, ◌<◌, ◌≤◌, ◌≡◌, refl, ◌==◌, Bool, true, false, Option, Some, None, option_and_then, List, [], take, length, drop, eqb}
 use Prim.Native.Char.{code}
-use Rattle.std.proofs.Common.{arith, sym, ap, ◌∙◌, length-drop, length-take, take_all}
+use Rattle.std.proofs.Common.{arith, sym, ap, ◌∙◌, length-drop, length-take, take_all, drop_of_length-le}
 use Rattle.std.specs.List.{position}
 use Rattle.std.proofs.lemmas.List.Quantifiers.{position-Some}
-use Rattle.text.specs.Find.{index_of}
+use Rattle.text.specs.Bytes.{bytes}
+use Rattle.text.specs.Find.{index_of, place-some, place-none}
 use Rattle.sentences.specs.Phrases.{step_names, step_name, reasons}
 use Rattle.sentences.specs.PhraseTableLaws.{name-count, reason-count}
 use Rattle.std.specs.Cmp.Lexicographic.{pointwise}
@@ -53,12 +54,24 @@ named bs s e =
     let p = same-equal (take (length (step_name s)) bs) (step_name s) t.1 in
     (omega (arith, name-count, t.0), omega (arith, ap (length {A = ℕ}) p, length-take (length (step_name s)) bs))
 
-pub numeral_read : (bs : List ℕ) (colon : ℕ) (r : Option ℕ) → colon ≡ 0 + index_of (code ":") bs → r ≡ client_of (take colon bs)
-    → client_of (take (index_of (code ":") bs) bs) ≡ r
-numeral_read bs colon r e h = let q : index_of (code ":") bs ≡ colon = omega arith in rw (q, h)
+-- The colon that ends the numeral; without one no reason follows.
+pub colon_place : (bs : List ℕ) (colon : ℕ) (found : Option ℕ) → found ≡ position (λ b. b == code ":") bs → found ≡ Some colon
+    → (colon ≡ index_of (code ":") bs) × (colon < length bs)
+colon_place bs colon found e is = place-some (code ":") bs colon (sym e ∙ is)
 
-pub colon_place : (bs : List ℕ) (colon : ℕ) → colon ≡ 0 + index_of (code ":") bs → colon ≡ index_of (code ":") bs
-colon_place bs colon e = omega arith
+pub numeral_read : (bs : List ℕ) (colon : ℕ) (r : Option ℕ) → colon ≡ index_of (code ":") bs → r ≡ client_of (take colon bs)
+    → client_of (take (index_of (code ":") bs) bs) ≡ r
+numeral_read bs colon r e h = let q : index_of (code ":") bs ≡ colon = sym e in rw (q, h)
+
+pub no_colon : (bs : List ℕ) → position (λ b. b == code ":") bs ≡ None → behind (bytes ": ") (drop (index_of (code ":") bs) bs) ≡ None
+unfolding behind begins same_bytes
+no_colon bs e =
+    let none : drop (index_of (code ":") bs) bs ≡ [] = drop_of_length-le bs {i = index_of (code ":") bs} (omega (arith, place-none (code ":") bs e)) in
+    rw none refl
+
+pub unread : {A B : Type 0} (o : Option A) → ◌≡◌ {A = Option B} (option_and_then (λ (a : A). None) o) None
+unread None = refl
+unread (Some a) = refl
 
 -- The place of a reason is below the number of refusals.
 pub placed : (bs : List ℕ) (place : ℕ) → position (same_bytes bs) reasons ≡ Some place → place < 28

@@ -56,7 +56,8 @@ pub fn names() -> &'static [&'static [u8]]
     NAMES
 }
 
-// The table of reasons.
+// The table of reasons. Each table has its two functions: a step counts from 0 and a refusal from 1, and each contract is a definition of
+// its own (`step_names` and `step_name`, `reasons` and `reason`), so that one generic function would take all that differs as arguments.
 #[tactic(auto, unfolding(crate::specs::Phrases::reasons))]
 pub fn reasons() -> &'static [&'static [u8]]
     ensures { texts result.now ≡ reasons }

@@ -38,7 +38,7 @@ pub fn read_sentence(bytes: &[u8]) -> Option<SentenceNumbers>
     let step = step_of(bytes)?;
     let bytes = &bytes[name(step).len()..];
     let bytes = bytes.strip_prefix(b" of client ")?;
-    let colon = text::find::index_from(bytes, 0, b':');
+    let colon = text::find::first_place(bytes, b':')?;
     let client = client_of(&bytes[..colon])?;
     let reason = bytes[colon..].strip_prefix(b": ")?;
     let place = reason_place(reason)?;

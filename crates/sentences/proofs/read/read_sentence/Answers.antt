@@ -1,6 +1,6 @@
 use Rattle.std.proofs.Common.{arith, sym, ap, ◌∙◌, length}
 use Rattle.sentences.specs.Read.{read_sentence}
-use Rattle.sentences.specs.ReadLaws.{named, not_stripped, stripped, colon_place, numeral_read, placed}
+use Rattle.sentences.specs.ReadLaws.{named, not_stripped, stripped, no_colon, unread, colon_place, numeral_read, placed}
 use Rattle.text.specs.Bytes.{bytes}
 use Rattle.sentences.proofs.read.read_sentence.Goals as goal
 
@@ -22,6 +22,17 @@ unfolding read_sentence
 returns-in_err-bytes c =
     rw (c.from_residual-in_err-bytes.ensures, sym c.step_of.ensures ∙ c.in_ok-step.was, not_stripped _ _ _ _ (ap length c.name.ensures) c.in_err-bytes.ensures.cases)
 
+pub returns-in_err-colon : goal.returns-in_err-colon
+unfolding read_sentence
+returns-in_err-colon c =
+    rw (
+      c.from_residual-in_err-colon.ensures,
+      sym c.step_of.ensures ∙ c.in_ok-step.was,
+      stripped _ _ _ _ (ap length c.name.ensures) _ c.in_ok-bytes.ensures.cases,
+      no_colon _ (sym c.first_place.ensures ∙ c.in_err-colon.was),
+    )
+    (sym (unread _))
+
 pub returns-in_err-client : goal.returns-in_err-client
 unfolding read_sentence
 returns-in_err-client c =
@@ -29,7 +40,7 @@ returns-in_err-client c =
       c.from_residual-in_err-client.ensures,
       sym c.step_of.ensures ∙ c.in_ok-step.was,
       stripped _ _ _ _ (ap length c.name.ensures) _ c.in_ok-bytes.ensures.cases,
-      numeral_read _ _ _ c.index_from-colon.ensures.is c.client_of.ensures,
+      numeral_read _ _ _ (colon_place c.in_ok-bytes.bytes.now _ _ c.first_place.ensures c.in_ok-colon.was).0 c.client_of.ensures,
       c.in_err-client.was,
     )
 
@@ -40,9 +51,9 @@ returns-in_err-reason c =
       c.from_residual-in_err-reason.ensures,
       sym c.step_of.ensures ∙ c.in_ok-step.was,
       stripped _ _ _ _ (ap length c.name.ensures) _ c.in_ok-bytes.ensures.cases,
-      numeral_read _ _ _ c.index_from-colon.ensures.is c.client_of.ensures,
+      numeral_read _ _ _ (colon_place c.in_ok-bytes.bytes.now _ _ c.first_place.ensures c.in_ok-colon.was).0 c.client_of.ensures,
       c.in_ok-client.was,
-      not_stripped (bytes ": ") _ _ _ (colon_place _ _ c.index_from-colon.ensures.is) c.in_err-reason.ensures.cases,
+      not_stripped (bytes ": ") _ _ _ (colon_place c.in_ok-bytes.bytes.now _ _ c.first_place.ensures c.in_ok-colon.was).0 c.in_err-reason.ensures.cases,
     )
 
 pub returns-in_err-place : goal.returns-in_err-place
@@ -52,9 +63,9 @@ returns-in_err-place c =
       c.from_residual-in_err-place.ensures,
       sym c.step_of.ensures ∙ c.in_ok-step.was,
       stripped _ _ _ _ (ap length c.name.ensures) _ c.in_ok-bytes.ensures.cases,
-      numeral_read _ _ _ c.index_from-colon.ensures.is c.client_of.ensures,
+      numeral_read _ _ _ (colon_place c.in_ok-bytes.bytes.now _ _ c.first_place.ensures c.in_ok-colon.was).0 c.client_of.ensures,
       c.in_ok-client.was,
-      stripped (bytes ": ") _ _ _ (colon_place _ _ c.index_from-colon.ensures.is) _ c.in_ok-reason.ensures.cases,
+      stripped (bytes ": ") _ _ _ (colon_place c.in_ok-bytes.bytes.now _ _ c.first_place.ensures c.in_ok-colon.was).0 _ c.in_ok-reason.ensures.cases,
       sym c.reason_place.ensures ∙ c.in_err-place.was,
     )
 
@@ -67,8 +78,8 @@ returns c =
     rw (
       sym c.step_of.ensures ∙ c.in_ok-step.was,
       stripped _ _ _ _ (ap length c.name.ensures) _ c.in_ok-bytes.ensures.cases,
-      numeral_read _ _ _ c.index_from-colon.ensures.is c.client_of.ensures,
+      numeral_read _ _ _ (colon_place c.in_ok-bytes.bytes.now _ _ c.first_place.ensures c.in_ok-colon.was).0 c.client_of.ensures,
       c.in_ok-client.was,
-      stripped (bytes ": ") _ _ _ (colon_place _ _ c.index_from-colon.ensures.is) _ c.in_ok-reason.ensures.cases,
+      stripped (bytes ": ") _ _ _ (colon_place c.in_ok-bytes.bytes.now _ _ c.first_place.ensures c.in_ok-colon.was).0 _ c.in_ok-reason.ensures.cases,
       sym c.reason_place.ensures ∙ c.in_ok-place.was,
     )
