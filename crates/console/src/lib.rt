@@ -19,8 +19,8 @@ pub enum Product {
     Total,
 }
 
-// Reads until the buffer is full or the input ends, and again where a signal interrupts it. The reads are counted, since every loop is
-// proved to end.
+// Reads until the buffer is full or the input ends, and again where a signal interrupts it. A counted range and no `loop`: signals may
+// interrupt without end, so that a `loop` would need a Wait bound on `run`, and no function of the repository has one.
 fn read_input<R: Read>(reader: &mut R, input: &mut [u8]) -> io::Result<usize>
     ensures bound { IfOk result (λ n. n ≤ length input.new) }
     ensures bytes { IfOk result (λ n. Consumes (R.remaining reader.old) (R.remaining reader.new) (take n input.new)) }

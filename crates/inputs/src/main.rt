@@ -16,9 +16,7 @@ fn print_heading(rt: &impl Print, name: &[u8]) -> io::Result<()> {
 }
 
 fn run_file(rt: &(impl Files + Print), name: &[u8], product: Product) -> io::Result<()> {
-    let Ok(path) = str::from_utf8(name) else {
-        return Err(io::ErrorKind::InvalidInput.into());
-    };
+    let path = str::from_utf8(name).map_err(|_| io::ErrorKind::InvalidInput)?;
     console::run(&mut fs::open(rt, path)?, &mut io::writer(rt), product)
 }
 
@@ -48,7 +46,8 @@ fn try_argument(rt: &(impl Env + Eprint + Files + Print), i: usize) -> io::Resul
     Ok(true)
 }
 
-// A file that did not run leaves a line that no product prints.
+// A file that did not run leaves a line that no product prints. A range and no `loop`: the range is what ends it where no
+// argument does. A `loop` that nothing ends would need a Wait bound on `main`, and no function of the repository has one.
 fn main(rt: HostRuntime) -> io::Result<()> {
     for i in 1..usize::MAX {
         if !try_argument(&rt, i)? {

@@ -1,6 +1,6 @@
 -- How the code finds out how an input opens.
 use Prim.Native.Nat.{ℕ, ◌+◌, ◌-◌, ◌<◌, ◌≤◌}
-use Rattle.std.proofs.Common.{arith, sym, subst, ◌∙◌}
+use Rattle.std.proofs.Common.{arith, sym, subst, ◌∙◌, take_all, length-drop}
 use Rattle.std.specs.Prelude.{◌≡◌, ◌==◌, true, List, [], ◌∷◌, length, take, drop, ltb, position, Option, Some, None, Result, Ok, Err, ok_or}
 use Rattle.std.proofs.Math.Path.{refl, ap}
 use borrow.Author.Tests.{lt-ltb, le-ltb, ltb-true}
@@ -17,12 +17,19 @@ use Rattle.requests.specs.LineLaws.{next-line}
 use Rattle.requests.specs.Opening.{too_long, bad_start, begins, client_count, started, started_by, opening, printed}
 use Rattle.requests.specs.FirstLineLaws.{few-clients, none-some}
 
--- A session: its client count, and where its lines begin.
-pub record Begun (input : List ℕ) (n from : ℕ) : Type 0 where
-  pub opens : opening input ≡ begins n (lines (drop from input))
+-- A session: its client count, and the bytes of its lines.
+pub record Begun (n : ℕ) (rest : List ℕ) : Type 0 where
   pub some : 1 ≤ n
   pub few : n ≤ client_limit
+  pub small : length rest ≤ input_limit
+
+-- The session that an input opens: its bytes are those of the input from a place on.
+pub record Opened (input : List ℕ) (n : ℕ) (rest : List ℕ) : Type 0 where
+  pub opens : opening input ≡ begins n (lines rest)
+  pub begun : Begun n rest
+  pub from : ℕ
   pub within : from ≤ length input
+  pub left : rest ≡ drop from input
   pub small : length input ≤ input_limit
 
 abbrev pub Start : Type 0
@@ -31,7 +38,7 @@ Start = Result Beginning StartError
 abbrev pub Opens : List ℕ → Start → Type 0
 Opens input (Err TooLong) = opening input ≡ too_long
 Opens input (Err BadStart) = opening input ≡ bad_start
-Opens input (Ok b) = Begun input b.clients b.from
+Opens input (Ok b) = Opened input b.clients b.lines.rest.now
 
 -- What is printed of each: some words, and the byte that ends them.
 abbrev pub error_words : StartError → List ℕ
@@ -48,11 +55,14 @@ module _ (session_text : ℕ → List Line → List ℕ) (input : List ℕ) (s :
   prints-error BadStart is = ap (printed session_text) (subst (Opens input) is o)
 
   module _ (b : Beginning) (is : s ≡ Ok b) where
-    pub begun : Begun input b.clients b.from
-    begun = subst (Opens input) is o
+    opened_by : Opened input b.clients b.lines.rest.now
+    opened_by = subst (Opens input) is o
 
-    pub prints-session : printed session_text (opening input) ≡ session_text b.clients (lines (drop b.from input))
-    prints-session = ap (printed session_text) begun.opens
+    pub begun : Begun b.clients b.lines.rest.now
+    begun = opened_by.begun
+
+    pub prints-session : printed session_text (opening input) ≡ session_text b.clients (lines b.lines.rest.now)
+    prints-session = ap (printed session_text) opened_by.opens
 
 -- The first line, by where it ends.
 first-start : (input : List ℕ) (end : ℕ) → end ≡ 0 + index_of 10 input
@@ -81,13 +91,14 @@ module _ (input : List ℕ) (small : length input ≤ input_limit) (end : ℕ) (
         (λ t. ltb-true end (length input) t)
         (λ t. absurd (none-some n (sym (rw t at counted) ∙ is)))
 
-    pub good_start : Begun input n (end + 1)
+    pub good_start : Opened input n (drop (end + 1) input)
     unfolding started
     good_start = let range = few-clients (line (take end input) (ltb end (length input))) n (sym counted ∙ is) in record {
       opens = opened ∙ ap (λ (k : Option ℕ). started k (lines (drop (end + 1) input))) is;
-      some = range.0;
-      few = range.1;
+      begun = record { some = range.0; few = range.1; small = omega (arith, small, length-drop (end + 1) input) };
+      from = end + 1;
       within = omega (arith, ended);
+      left = refl;
       small = small;
     }
 
@@ -101,7 +112,7 @@ module _ (input : List ℕ) (small : length input ≤ input_limit) where
   not-ended e = bad-start input small (length input) (omega (arith, place-none 10 input e)) None (unended (take (length input) input)) refl
 
   module _ (end : ℕ) (ends : position (λ b. b == 10) input ≡ Some end) (m : Option ℕ) (counted : m ≡ client_count (line (take end input) true)) where
-    place : (end ≡ index_of 10 input) × (end < length input)
+    pub place : (end ≡ index_of 10 input) × (end < length input)
     place = place-some 10 input end ends
 
     told : m ≡ client_count (line (take end input) (ltb end (length input)))
@@ -110,8 +121,10 @@ module _ (input : List ℕ) (small : length input ≤ input_limit) where
     pub bad-count : m ≡ None → opening input ≡ bad_start
     bad-count = bad-start input small end (omega (arith, place.0)) m told
 
-    pub good-count : (n : ℕ) → m ≡ Some n → Begun input n (end + 1)
-    good-count = good_start input small end (omega (arith, place.0)) m told
+    pub good-count : (n : ℕ) (rest : List ℕ) → m ≡ Some n → rest ≡ take (length input - (end + 1)) (drop (end + 1) input) → Opened input n rest
+    good-count n rest is e =
+        let whole = take_all (length input - (end + 1)) (drop (end + 1) input) (omega (arith, length-drop (end + 1) input)) in
+        subst (Opened input n) (sym (e ∙ whole)) (good_start input small end (omega (arith, place.0)) m told n is)
 
 -- A count that was looked for, as its Result.
 pub found-none : (m : Option ℕ) (r : Result ℕ StartError) (e : StartError) → r ≡ ok_or m BadStart → r ≡ Err e → (m ≡ None) × (e ≡ BadStart)

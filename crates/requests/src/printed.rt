@@ -1,5 +1,5 @@
 // What is printed of an input: the text of its session, or one line that says why there is none.
-ghost use Rattle.std.specs.Prelude.{◌≡◌, ◌≤◌, ℕ, List, length, drop};
+ghost use Rattle.std.specs.Prelude.{◌≡◌, ◌≤◌, ℕ, List, length};
 ghost use Rattle.text.specs.Lent.{lent_answer, lent_text};
 ghost use Rattle.text.specs.Puts.{Puts, Room};
 ghost use Rattle.chain.specs.Operations.{buffers, fresh_buffers};
@@ -20,36 +20,34 @@ pub trait SessionText {
 
     // Of a session on a fresh log, in which each client has all its rights.
     fn put(
-        input: &[u8],
         beginning: Beginning,
         state: &mut [u64],
         entries: &mut [u64],
         rights: &[u64],
         to: &mut Writer,
     )
-        requires begun { Begun input.now beginning.clients beginning.from }
+        requires begun { Begun beginning.clients beginning.lines.rest.now }
         requires fresh { buffers state.old entries.old ≡ fresh_buffers session_capacity beginning.clients }
         requires all { rights.now ≡ all_rights beginning.clients }
-        requires room { Room to.old.text.now to.old.at (session_text beginning.clients (lines (drop beginning.from input.now))) }
+        requires room { Room to.old.text.now to.old.at (session_text beginning.clients (lines beginning.lines.rest.now)) }
         ensures puts { Puts to.old.text.now to.old.at
-            (session_text beginning.clients (lines (drop beginning.from input.now))) to.new.text.now to.new.at }
+            (session_text beginning.entry.clients (lines beginning.entry.lines.rest.now)) to.new.text.now to.new.at }
         ensures same_text { to.new.text.ghost_name ≡ to.old.text.ghost_name };
 }
 
 // A session has a log of its own.
-fn put_session<T: SessionText>(input: &[u8], beginning: Beginning, to: &mut Writer)
-    requires begun { Begun input.now beginning.clients beginning.from }
-    requires room { Room to.old.text.now to.old.at (T.session_text beginning.clients (lines (drop beginning.from input.now))) }
+fn put_session<T: SessionText>(beginning: Beginning, to: &mut Writer)
+    requires begun { Begun beginning.clients beginning.lines.rest.now }
+    requires room { Room to.old.text.now to.old.at (T.session_text beginning.clients (lines beginning.lines.rest.now)) }
     ensures puts { Puts to.old.text.now to.old.at
-        (T.session_text beginning.clients (lines (drop beginning.from input.now))) to.new.text.now to.new.at }
+        (T.session_text beginning.entry.clients (lines beginning.entry.lines.rest.now)) to.new.text.now to.new.at }
     ensures same_text { to.new.text.ghost_name ≡ to.old.text.ghost_name }
 {
     let mut state = [0u64; STATE_LENGTH];
     let mut entries = [0u64; CAPACITY];
-    let mut rights = [0u64; rights::LENGTH];
     fresh::fresh(&mut state, &mut entries, beginning.clients);
-    rights::all::grant_all(&mut rights, beginning.clients);
-    T::put(input, beginning, &mut state, &mut entries, &rights, to);
+    let rights = rights::all::all_for(beginning.clients);
+    T::put(beginning, &mut state, &mut entries, &rights, to);
 }
 
 fn put_error(why: StartError, to: &mut Writer)
@@ -67,7 +65,7 @@ fn put_all<T: SessionText>(input: &[u8], to: &mut Writer)
     ensures same_text { to.new.text.ghost_name ≡ to.old.text.ghost_name }
 {
     match start_of(input) {
-        Ok(beginning) => put_session::<T>(input, beginning, to),
+        Ok(beginning) => put_session::<T>(beginning, to),
         Err(why) => put_error(why, to),
     }
 }

@@ -4,6 +4,7 @@ ghost use Rattle.requests.specs.Lines.{line};
 ghost use Rattle.requests.specs.Opening.{client_count};
 ghost use Rattle.requests.specs.Starts.{error_words, Opens};
 
+use crate::input::Lines;
 use limits::{CLIENT_LIMIT, INPUT_LIMIT, LARGE_CAPACITY};
 use std::error::Error;
 use std::fmt;
@@ -11,11 +12,11 @@ use std::fmt;
 // The words of the entry buffer of a session's log.
 pub const CAPACITY: usize = LARGE_CAPACITY;
 
-// How a session begins: its client count, and where the lines after the first begin.
-#[derive(Clone, Copy, Debug, PartialEq, Eq)]
-pub struct Beginning {
+// How a session begins: its client count, and the lines after the first.
+#[derive(Clone, Copy, Debug, PartialEq, Eq, Drop)]
+pub struct Beginning<'a> {
     pub clients: u64,
-    pub from: usize,
+    pub lines: Lines<'a>,
 }
 
 // Why an input is no session.
@@ -63,6 +64,6 @@ pub fn start_of(input: &[u8]) -> Result<Beginning, StartError>
     let clients = client_count(&input[..end]).ok_or(StartError::BadStart)?;
     Ok(Beginning {
         clients,
-        from: end + 1,
+        lines: Lines::of(&input[end + 1..]),
     })
 }

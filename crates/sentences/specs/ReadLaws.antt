@@ -1,5 +1,5 @@
 -- What reading meets: whether a text begins with a phrase, what follows it there, and where the client's numeral ends.
-use Rattle.std.specs.Prelude.{ℕ, ◌+◌, ◌-◌, ◌<◌, ◌≤◌, ◌≡◌, refl, ◌==◌, Bool, true, false, Option, Some, None, option_and_then, List, [], take, length, drop, eqb}
+use Rattle.std.specs.Prelude.{ℕ, ◌-◌, ◌<◌, ◌≤◌, ◌≡◌, refl, ◌==◌, Bool, true, false, Option, Some, None, option_and_then, List, [], take, length, drop, eqb}
 use Prim.Native.Char.{code}
 use Rattle.std.proofs.Common.{arith, sym, ap, ◌∙◌, length-drop, length-take, take_all, drop_of_length-le}
 use Rattle.std.specs.List.{position}
@@ -56,8 +56,8 @@ named bs s e =
 
 -- The colon that ends the numeral; without one no reason follows.
 pub colon_place : (bs : List ℕ) (colon : ℕ) (found : Option ℕ) → found ≡ position (λ b. b == code ":") bs → found ≡ Some colon
-    → (colon ≡ index_of (code ":") bs) × (colon < length bs)
-colon_place bs colon found e is = place-some (code ":") bs colon (sym e ∙ is)
+    → colon ≡ index_of (code ":") bs
+colon_place bs colon found e is = (place-some (code ":") bs colon (sym e ∙ is)).0
 
 pub numeral_read : (bs : List ℕ) (colon : ℕ) (r : Option ℕ) → colon ≡ index_of (code ":") bs → r ≡ client_of (take colon bs)
     → client_of (take (index_of (code ":") bs) bs) ≡ r
@@ -69,6 +69,7 @@ no_colon bs e =
     let none : drop (index_of (code ":") bs) bs ≡ [] = drop_of_length-le bs {i = index_of (code ":") bs} (omega (arith, place-none (code ":") bs e)) in
     rw none refl
 
+-- Nothing is read, whatever client there is.
 pub unread : {A B : Type 0} (o : Option A) → ◌≡◌ {A = Option B} (option_and_then (λ (a : A). None) o) None
 unread None = refl
 unread (Some a) = refl

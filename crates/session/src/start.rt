@@ -12,7 +12,6 @@ impl SessionText for Transcript {
     ghost session_text = { session_text };
 
     fn put(
-        input: &[u8],
         beginning: Beginning,
         state: &mut [u64],
         entries: &mut [u64],
@@ -20,7 +19,7 @@ impl SessionText for Transcript {
         to: &mut Writer,
     ) {
         let mut reading = [0u64; CAPACITY];
-        crate::replies_to::put_replies(input, beginning.from, state, entries, rights, to);
+        crate::replies_to::put_replies(beginning.lines, state, entries, rights, to);
         crate::chain_end::put_chain(state, entries, &mut reading, to);
     }
 }

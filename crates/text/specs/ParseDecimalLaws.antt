@@ -1,5 +1,5 @@
 -- A numeral read digit by digit: what the loop over its bytes meets.
-use Rattle.std.specs.Prelude.{ℕ, ◌+◌, ◌-◌, ◌*◌, ◌/◌, ◌^◌, ◌<◌, ◌≤◌, ◌≡◌, refl, true, false, not, cond, ◌&&◌, List, [], ◌∷◌, length, get_or, drop, ltb, eqb, Option, Some, None}
+use Rattle.std.specs.Prelude.{ℕ, ◌+◌, ◌-◌, ◌*◌, ◌^◌, ◌<◌, ◌≤◌, ◌≡◌, refl, true, false, not, cond, ◌&&◌, List, [], ◌∷◌, length, get_or, drop, ltb, eqb, Option, Some, None}
 use Rattle.std.proofs.Common.{arith, add-one, ◌∙◌, drop_of_length-le, drop-cons}
 use Rattle.std.proofs.Math.Path.{sym}
 use Rattle.std.proofs.Math.Bool.{and-false}

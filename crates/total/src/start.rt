@@ -1,6 +1,5 @@
 // The run total of a session: its listed ledgers, their total and the rounded total.
-ghost use Rattle.std.specs.Prelude.{◌≡◌, ◌≤◌, length, drop};
-ghost use Rattle.limits.specs.Limits.{input_limit};
+ghost use Rattle.std.specs.Prelude.{◌≡◌};
 ghost use Rattle.text.specs.Puts.{Puts, Room};
 ghost use Rattle.chain.specs.Operations.{buffers, after_steps, IsLog};
 ghost use Rattle.totals.specs.Totals.{run_total};
@@ -13,15 +12,13 @@ use requests::printed::SessionText;
 use requests::start::Beginning;
 use text::writer::Writer;
 
-// Takes the lines from a place of the input on.
-fn run_lines(input: &[u8], from: usize, state: &mut [u64], entries: &mut [u64], rights: &[u64])
-    requires from { from ≤ length input.now }
-    requires small { length input.now ≤ input_limit }
+// Takes the step of each line that is left.
+fn run_lines(left: Lines, state: &mut [u64], entries: &mut [u64], rights: &[u64])
     ensures { buffers state.new entries.new ≡ after_steps
-        (taken rights.now (lines (drop from input.now)))
+        (taken rights.now (lines left.entry.rest.now))
         (buffers state.old entries.old) }
 {
-    for line in Lines::of(&input[from..]) {
+    for line in left {
         requests::line::take(line, state, entries, rights);
     }
 }
@@ -57,14 +54,13 @@ impl SessionText for Output {
     ghost session_text = { session_total };
 
     fn put(
-        input: &[u8],
         beginning: Beginning,
         state: &mut [u64],
         entries: &mut [u64],
         rights: &[u64],
         to: &mut Writer,
     ) {
-        run_lines(input, beginning.from, state, entries, rights);
+        run_lines(beginning.lines, state, entries, rights);
         put_log(state, entries, to);
     }
 }

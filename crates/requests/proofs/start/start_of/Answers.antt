@@ -23,5 +23,5 @@ returns-in_err-clients c =
 pub returns : goal.returns
 returns c =
     let end = sym c.first_place.ensures ∙ found-some _ _ _ c.ok_or.ensures.value c.in_ok-end.was in
-    good-count _ c.if-input-gt-INPUT_LIMIT.false _ end _ c.client_count.ensures _
-    (found-some _ _ _ c.ok_or-2.ensures.value c.in_ok-clients.was)
+    good-count _ c.if-input-gt-INPUT_LIMIT.false _ end _ c.client_count.ensures _ _
+    (found-some _ _ _ c.ok_or-2.ensures.value c.in_ok-clients.was) c.of.ensures

@@ -40,7 +40,7 @@ returns-in_err-client c =
       c.from_residual-in_err-client.ensures,
       sym c.step_of.ensures ∙ c.in_ok-step.was,
       stripped _ _ _ _ (ap length c.name.ensures) _ c.in_ok-bytes.ensures.cases,
-      numeral_read _ _ _ (colon_place c.in_ok-bytes.bytes.now _ _ c.first_place.ensures c.in_ok-colon.was).0 c.client_of.ensures,
+      numeral_read _ _ _ (colon_place c.in_ok-bytes.bytes.now _ _ c.first_place.ensures c.in_ok-colon.was) c.client_of.ensures,
       c.in_err-client.was,
     )
 
@@ -51,9 +51,9 @@ returns-in_err-reason c =
       c.from_residual-in_err-reason.ensures,
       sym c.step_of.ensures ∙ c.in_ok-step.was,
       stripped _ _ _ _ (ap length c.name.ensures) _ c.in_ok-bytes.ensures.cases,
-      numeral_read _ _ _ (colon_place c.in_ok-bytes.bytes.now _ _ c.first_place.ensures c.in_ok-colon.was).0 c.client_of.ensures,
+      numeral_read _ _ _ (colon_place c.in_ok-bytes.bytes.now _ _ c.first_place.ensures c.in_ok-colon.was) c.client_of.ensures,
       c.in_ok-client.was,
-      not_stripped (bytes ": ") _ _ _ (colon_place c.in_ok-bytes.bytes.now _ _ c.first_place.ensures c.in_ok-colon.was).0 c.in_err-reason.ensures.cases,
+      not_stripped (bytes ": ") _ _ _ (colon_place c.in_ok-bytes.bytes.now _ _ c.first_place.ensures c.in_ok-colon.was) c.in_err-reason.ensures.cases,
     )
 
 pub returns-in_err-place : goal.returns-in_err-place
@@ -63,9 +63,9 @@ returns-in_err-place c =
       c.from_residual-in_err-place.ensures,
       sym c.step_of.ensures ∙ c.in_ok-step.was,
       stripped _ _ _ _ (ap length c.name.ensures) _ c.in_ok-bytes.ensures.cases,
-      numeral_read _ _ _ (colon_place c.in_ok-bytes.bytes.now _ _ c.first_place.ensures c.in_ok-colon.was).0 c.client_of.ensures,
+      numeral_read _ _ _ (colon_place c.in_ok-bytes.bytes.now _ _ c.first_place.ensures c.in_ok-colon.was) c.client_of.ensures,
       c.in_ok-client.was,
-      stripped (bytes ": ") _ _ _ (colon_place c.in_ok-bytes.bytes.now _ _ c.first_place.ensures c.in_ok-colon.was).0 _ c.in_ok-reason.ensures.cases,
+      stripped (bytes ": ") _ _ _ (colon_place c.in_ok-bytes.bytes.now _ _ c.first_place.ensures c.in_ok-colon.was) _ c.in_ok-reason.ensures.cases,
       sym c.reason_place.ensures ∙ c.in_err-place.was,
     )
 
@@ -78,8 +78,8 @@ returns c =
     rw (
       sym c.step_of.ensures ∙ c.in_ok-step.was,
       stripped _ _ _ _ (ap length c.name.ensures) _ c.in_ok-bytes.ensures.cases,
-      numeral_read _ _ _ (colon_place c.in_ok-bytes.bytes.now _ _ c.first_place.ensures c.in_ok-colon.was).0 c.client_of.ensures,
+      numeral_read _ _ _ (colon_place c.in_ok-bytes.bytes.now _ _ c.first_place.ensures c.in_ok-colon.was) c.client_of.ensures,
       c.in_ok-client.was,
-      stripped (bytes ": ") _ _ _ (colon_place c.in_ok-bytes.bytes.now _ _ c.first_place.ensures c.in_ok-colon.was).0 _ c.in_ok-reason.ensures.cases,
+      stripped (bytes ": ") _ _ _ (colon_place c.in_ok-bytes.bytes.now _ _ c.first_place.ensures c.in_ok-colon.was) _ c.in_ok-reason.ensures.cases,
       sym c.reason_place.ensures ∙ c.in_ok-place.was,
     )

@@ -1,4 +1,4 @@
-use Rattle.std.proofs.Common.{◌≡◌, ◌-◌, rules, arith, ap, refl, ◌∙◌, [], ⊎_elim, length, take, drop, take_all, length-drop}
+use Rattle.std.proofs.Common.{◌≡◌, rules, arith, ap, refl, [], ⊎_elim, length}
 use Rattle.requests.specs.Lines.{lines}
 use Rattle.requests.specs.LineLaws.{few-lines}
 use Rattle.session.proofs.Parts.{running-start, turn-room, turn, turns-end}
@@ -6,14 +6,12 @@ use Rattle.session.proofs.replies_to.put_replies.Goals as goal
 
 pub loop-number-init : goal.loop-number-init
 loop-number-init c =
-    let args = c.args in
-    let whole : take (length args.input.now - args.from) (drop args.from args.input.now) ≡ drop args.from args.input.now =
-    take_all (length args.input.now - args.from) (drop args.from args.input.now) (omega (arith, length-drop args.from args.input.now)) in
-    let all : lines c.into_iter-number-iterator.result.b.rest.now ≡ lines (drop args.from args.input.now) =
-    rw c.into_iter-number-iterator.ensures.into_iter_gives (rw c.zip-number-items.ensures.second (ap lines (c.of.ensures ∙ whole))) in
+    let left = c.args.left.rest.now in
+    let all : lines c.into_iter-number-iterator.result.b.rest.now ≡ lines left =
+    rw c.into_iter-number-iterator.ensures.into_iter_gives (rw c.zip-number-items.ensures.second refl) in
     let one : c.into_iter-number-iterator.result.a.start ≡ 1 =
     rw c.into_iter-number-iterator.ensures.into_iter_gives (rw c.zip-number-items.ensures.first refl) in record {
-      few = omega (arith, one, ap length all, few-lines (drop args.from args.input.now), length-drop args.from args.input.now, c.requires.small);
+      few = omega (arith, one, ap length all, few-lines left, c.requires.small);
       running = rw (all, one) (running-start _ _ _ _ _);
       same_text = refl;
     }
