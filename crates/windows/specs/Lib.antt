@@ -1,3 +1,3 @@
-pub mod Left
+pub mod Walked
 pub mod WalkLaws
 pub mod FirstWindowLaws

@@ -5,7 +5,6 @@
 #![tactic(auto)]
 
 mod walk;
-mod words;
 
 ghost use Rattle.std.specs.Prelude.{◌≡◌};
 ghost use Rattle.chain.specs.Operations.{buffers};
