@@ -1,5 +1,5 @@
 // The adviser: the next step of one client, from both buffers, which are only read.
-// `advise` takes `state` and `entries` as two parameters: they may be no log, and are refused with 1 and 2 then. Past the checks an `OpenedLog` has both.
+// `advise` takes `state` and `entries` as two parameters: they may be no log, and are refused with 1 and 2. An `OpenedLog` has both once they passed.
 #![tactic(auto)]
 
 pub mod table;
