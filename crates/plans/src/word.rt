@@ -13,7 +13,8 @@ pub const NUMBER_UNIT: u64 = 1 << 60;
 
 pub const CLIENT_UNIT: u64 = 1 << 52;
 
-// The fields are taken out here alone. A step word is no `records::packed::Packed`, which would also have to say how one is stored.
+// The fields of any word are taken out here; `stretch` takes the value out of one that it has found to be a write. A step word is no
+// `records::packed::Packed`, which would also have to say how one is stored.
 pub fn planned_step(word: u64) -> Result<Step, UnknownStep>
     ensures { Tells word result }
 {
