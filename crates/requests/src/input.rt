@@ -23,6 +23,14 @@ impl<'a> Lines<'a> {
     {
         Lines { rest: input }
     }
+
+    // Their bytes.
+    pub fn rest(self) -> &'a [u8]
+        ensures { result.now ≡ self.entry.rest.now }
+    {
+        let Lines { rest } = self;
+        rest
+    }
 }
 
 impl<'a> Iterator for Lines<'a> {
