@@ -4,6 +4,7 @@
 
 pub mod all;
 pub mod form;
+pub mod right;
 pub mod verdict;
 
 use chain::kind::Kind;
