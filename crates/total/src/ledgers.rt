@@ -20,7 +20,7 @@ fn put_ledger(state: &[u64], entries: &[u64], ledger: LedgerNumber, to: &mut Wri
     }
 }
 
-// Place after place, until the list has no more.
+// Place after place, until the list has no more: the answer says so, also behind a list of as many places as there are.
 pub fn put_ledgers(state: &[u64], entries: &[u64], to: &mut Writer)
     requires log { IsLog (buffers state.now entries.now) }
     requires room { Room to.old.text.now to.old.at
@@ -30,7 +30,7 @@ pub fn put_ledgers(state: &[u64], entries: &[u64], to: &mut Writer)
         to.new.text.now to.new.at }
     ensures same_text { to.new.text.ghost_name ≡ to.old.text.ghost_name }
 {
-    for place in 1..=PLACE_LIMIT {
+    for place in 1..=PLACE_LIMIT + 1 {
         let Ok(ledger) = readers::ledger_at::ledger_at(state, entries, ListPlace(place)) else {
             return;
         };
