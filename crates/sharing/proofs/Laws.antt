@@ -1,4 +1,5 @@
 -- The proofs of what the theorems need.
+pub mod Numbers
 pub mod Turns
 pub mod Places
 pub mod Invariant

@@ -6,6 +6,9 @@ use Rattle.sharing.specs.declared.controller.Phase.TheVariants as phases
 use Rattle.sharing.specs.declared.controller.Act.TheVariants as acts
 use Rattle.sharing.specs.Turns.{to, when_accepted, when_next, when_between, when_placed}
 
+pub accepted-none : (id : ℕ) → id ≡ 0 → when_accepted id ≡ to phases.Idle acts.Withdraw
+accepted-none id e = rw (holds-true (same id 0) e)
+
 pub accepted-some : (id : ℕ) → (id ≡ 0 → ⊥) → when_accepted id ≡ to (phases.Waiting id) acts.Append
 accepted-some id e = rw (fails-false (same id 0) e)
 
