@@ -4,6 +4,7 @@ use Rattle.std.proofs.Common.{arith, sym, ap, ◌∙◌}
 use Rattle.std.specs.List.{position_or_len, position}
 use Rattle.std.specs.Borrow.{Bor}
 use Rattle.std.proofs.lemmas.List.{length-map, get_or-map}
+use Rattle.std.proofs.Math.ListN.{get_or-eq_default}
 use Rattle.std.proofs.Math.Bool.{and-eq-true_iff}
 use Rattle.checks.specs.Test.{every_from, test, Holds}
 use Rattle.checks.specs.TestLaws.{true-holds, by_bool}
@@ -35,6 +36,15 @@ names-pass = refl
 reasons-pass : passes_all longest_reason reasons ≡ true
 unfolding passes_all reasons every_from
 reasons-pass = refl
+
+-- Behind the tables each phrase is empty.
+pub no_name : (step : ℕ) → 9 < step → step_name step ≡ []
+unfolding step_name
+no_name step l = get_or-eq_default step_names [] (omega (arith, name-count))
+
+pub no-reason : (refusal : ℕ) → 28 < refusal → reason refusal ≡ []
+unfolding reason
+no-reason refusal l = get_or-eq_default ([] ∷ reasons) [] (omega (arith, reason-count))
 
 pub name-holds : (step : ℕ) → step ≤ 9 → Holds (phrase_test longest_name (step_name step))
 unfolding step_name

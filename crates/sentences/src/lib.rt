@@ -3,6 +3,7 @@
 
 pub mod answer;
 mod phrase;
+mod put;
 pub mod read;
 
 ghost use Rattle.std.specs.Prelude.{◌≡◌};
@@ -13,7 +14,7 @@ ghost use Rattle.sentences.specs.Sentences.{sentence, unsaid, sentence_checks, s
 
 use chain::answer::Refusal;
 use chain::kind::Kind;
-use phrase::{name, reason};
+use put::{put_name, put_reason};
 use text::writer::Writer;
 
 // The fewest bytes of a text buffer, and the last number of a step, of a client and of a refusal.
@@ -37,11 +38,11 @@ fn put_sentence(to: &mut Writer, step: u64, client: u64, refusal: u64)
     ensures puts { Puts to.old.text.now to.old.at (sentence step client refusal) to.new.text.now to.new.at }
     ensures same_text { to.new.text.ghost_name ≡ to.old.text.ghost_name }
 {
-    to.put_phrase(name(step as usize));
+    put_name(to, step);
     to.put_phrase(b" of client ");
     to.put_decimal(client);
     to.put_phrase(b": ");
-    to.put_phrase(reason(refusal as usize));
+    put_reason(to, refusal);
 }
 
 // Refusal 27 comes before 28. The C interface's `cindrolf_sentence` passes any numbers: 28 refuses those that have no sentence.

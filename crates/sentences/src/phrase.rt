@@ -1,6 +1,6 @@
-// The fixed phrases of a sentence: the name of each step and the reason of each refusal.
+// The fixed phrases of a sentence, as a text that is read is compared with them: the name of each step and the reason of each refusal.
 ghost use Rattle.std.specs.Prelude.{◌≡◌, ◌≤◌};
-ghost use Rattle.sentences.specs.Phrases.{texts, step_names, reasons, step_name, reason};
+ghost use Rattle.sentences.specs.Phrases.{texts, step_names, reasons, step_name};
 
 // In the order of the steps' numbers, from 0.
 const NAMES: &[&[u8]] = &[
@@ -56,8 +56,7 @@ pub fn names() -> &'static [&'static [u8]]
     NAMES
 }
 
-// The table of reasons. Each table has its two functions: a step counts from 0 and a refusal from 1, and each contract is a definition of
-// its own (`step_names` and `step_name`, `reasons` and `reason`), so that one generic function would take all that differs as arguments.
+// The table of reasons, in the order of the refusals from 1. Each table has its function, whose contract is a definition of its own.
 #[tactic(auto, unfolding(crate::specs::Phrases::reasons))]
 pub fn reasons() -> &'static [&'static [u8]]
     ensures { texts result.now ≡ reasons }
@@ -70,12 +69,4 @@ pub fn name(step: usize) -> &'static [u8]
     ensures { result.now ≡ step_name step }
 {
     names()[step]
-}
-
-pub fn reason(refusal: usize) -> &'static [u8]
-    requires some { 1 ≤ refusal }
-    requires known { refusal ≤ 28 }
-    ensures { result.now ≡ reason refusal }
-{
-    reasons()[refusal - 1]
 }
