@@ -1,3 +1,3 @@
-pub mod Walked
+pub mod Left
 pub mod WalkLaws
 pub mod FirstWindowLaws

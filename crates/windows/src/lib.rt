@@ -5,6 +5,7 @@
 #![tactic(auto)]
 
 mod walk;
+mod words;
 
 ghost use Rattle.std.specs.Prelude.{◌≡◌};
 ghost use Rattle.chain.specs.Operations.{buffers};

@@ -5,8 +5,8 @@ ghost use Rattle.limits.specs.Limits.{window_limit};
 ghost use Rattle.chain.specs.Windows.{window_from};
 ghost use Rattle.readers.specs.Along.{chain_words};
 
+use crate::words::Words;
 use readers::log::Log;
-use readers::parts::Parts;
 use records::entry::Entry;
 use records::numbers::ReadingPlace;
 use records::packed::Packed;
@@ -19,15 +19,15 @@ pub fn first_over(log: Log<'_>, length: u64, limit: u64) -> Option<ReadingPlace>
     ensures { Ok result ≡ window_from length limit 0 (map value_of (chain_words log.entry.state.now log.entry.entries.now log.entry.head)) }
 {
     let mut answer = None;
-    let mut past = Parts::of(log).flatten();
+    let mut past = Words::of(log);
     let mut held: u64 = 0;
     let mut sum: u64 = 0;
-    'starts: for (start, first) in Parts::of(log).flatten().enumerate() {
+    'starts: for (start, first) in Words::of(log).enumerate() {
         while held < length {
             let Some(word) = past.next() else {
                 break 'starts;
             };
-            let entry = Entry::of_word(*word);
+            let entry = Entry::of_word(word);
             sum += entry.value;
             held += 1;
         }
@@ -35,7 +35,7 @@ pub fn first_over(log: Log<'_>, length: u64, limit: u64) -> Option<ReadingPlace>
             answer = Some(ReadingPlace(start as u64));
             break 'starts;
         }
-        sum -= Entry::of_word(*first).value;
+        sum -= Entry::of_word(first).value;
         held -= 1;
     }
     answer
