@@ -1,7 +1,7 @@
 // The phrases of a sentence, written.
 //
-// Each is written by a call of its own, and not from the tables of `phrase`: the compiler knows its bytes, and stores them at once. From a table `put_phrase`
-// copies any number of bytes, by a call of `memmove`, which the archive for C would need from outside, and a sentence takes twice the time.
+// Each is written by a call of its own, and not from the tables of `phrase`: the compiler knows its bytes, and stores them at once. From a table
+// `put_phrase` copies any number of bytes, by a call of `memmove`, which the archive for C would need from outside, and a sentence takes longer.
 ghost use Rattle.std.specs.Prelude.{◌≡◌, ◌≤◌};
 ghost use Rattle.text.specs.Puts.{Puts, Room};
 ghost use Rattle.sentences.specs.Phrases.{step_name, reason};

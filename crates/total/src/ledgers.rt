@@ -20,7 +20,7 @@ fn put_ledger(state: &[u64], entries: &[u64], ledger: LedgerNumber, to: &mut Wri
     }
 }
 
-// Place after place, until the list has no more: the answer says so, also behind a list of as many places as there are.
+// Place after place, until one is refused; behind a full list that is the place after the last.
 pub fn put_ledgers(state: &[u64], entries: &[u64], to: &mut Writer)
     requires log { IsLog (buffers state.now entries.now) }
     requires room { Room to.old.text.now to.old.at
